@@ -1,0 +1,88 @@
+-- A number behind its sign.
+use mathlib.Core.Path.{_≡_, refl, sym, ap, ap₂, _∙_}
+use mathlib.Core.Bool.{Bool, true, false, cond, _&&_}
+use mathlib.Core.List.{List, [], _∷_}
+use Prim.Native.Nat.{ℕ, _+_, _-_, _≤_, _<_}
+use native.Mathlib.Omega.{arith}
+use lib.Dec.{eqb}
+use lib.IntN.{ℤ, pos, negsuc}
+use lib.ListN.{length, getD, take, drop}
+use borrow.Author.Tests.{eq-eqb, ne-eqb}
+use Rattle.std.specs.declared.result.Result.{Result}
+use Rattle.std.specs.declared.result.Result.the-variants.{Ok, Err}
+use Rattle.std.proofs.shelf.Lists.{take-rest, length-drop}
+use Rattle.std.proofs.shelf.Tests.{cond-true, cond-false, and-right}
+use Rattle.atoi_simd.specs.declared.error.AtoiSimdError.{AtoiSimdError}
+use Rattle.atoi_simd.specs.declared.error.AtoiSimdError.the-variants.{Empty, Size, Overflow, Invalid64}
+use Rattle.atoi_simd.specs.Answer.{Answer, ok, empty, size, overflow, invalid, faultOf, checkedBy}
+use Rattle.atoi_simd.specs.Calls.{Extent, front, frontUpTo, unsignedCall, signedCall, negated, afterSign}
+use Rattle.atoi_simd.specs.NumberType.{NumberType, takesMinus, limit}
+use Rattle.atoi_simd.proofs.Sound.{Sound, front-sound}
+
+-- what stands behind the first byte, as a slice pattern binds it
+abbrev pub behind : List ℕ → List ℕ
+behind bs = take (length bs - 1) (drop 1 bs)
+
+module _ (e : Extent) (t : NumberType) (skip plus : Bool) where
+  pub plus-is : (bs : List ℕ) (a : Answer) → 0 < length bs → getD bs 0 0 ≡ 43 → plus ≡ true → a ≡ unsignedCall e t false skip (behind bs) →
+      afterSign a ≡ signedCall e t skip plus bs
+  plus-is [] a h f p is = absurd (omega arith)
+  plus-is (b ∷ bs) a h f p is =
+      ap afterSign (is ∙ ap (unsignedCall e t false skip) (take-rest (b ∷ bs) 1))
+      ∙ sym (cond-true (plus && eqb b 43) _ _ (ap₂ _&&_ p (eq-eqb b 43 f)))
+
+  pub minus-is : (bs : List ℕ) (a : Answer) → 0 < length bs → getD bs 0 0 ≡ 45 → takesMinus t ≡ true → a ≡ unsignedCall e t true skip (behind bs) →
+      afterSign a ≡ signedCall e t skip plus bs
+  minus-is [] a h f m is = absurd (omega arith)
+  minus-is (b ∷ bs) a h f m is =
+      ap afterSign (is ∙ ap (unsignedCall e t true skip) (take-rest (b ∷ bs) 1))
+      ∙ sym (cond-false (plus && eqb b 43) _ _ (and-right plus (eqb b 43) (ne-eqb b 43 (λ q. omega arith)))
+      ∙ cond-true (takesMinus t && eqb b 45) _ _ (ap₂ _&&_ m (eq-eqb b 45 f)))
+
+-- a fault says nothing of the sign
+pub fault-same : (e : AtoiSimdError) → faultOf e ≡ afterSign (faultOf e)
+fault-same Empty = refl
+fault-same (Size n p) = refl
+fault-same (Overflow p) = refl
+fault-same (Invalid64 v n p) = refl
+
+-- a checked call behind the sign has read all of the text with it
+pub checked-after : {V : Type 0} (number : V → ℤ) (bs : List ℕ) (r : Result V AtoiSimdError) → 0 < length bs →
+    checkedBy number (length bs) r ≡ afterSign (checkedBy number (length (behind bs)) r)
+checked-after number bs (Ok v) h =
+    let l : length (behind bs) ≡ length bs - 1 = ap length (take-rest bs 1) ∙ length-drop 1 bs in
+    ap (ok (number v)) (omega arith)
+checked-after number bs (Err e) h = fault-same e
+
+-- ---- the count with the sign is a count of bytes that are there
+
+abbrev counted : Answer → ℕ
+counted (ok v n) = n
+counted empty = 0
+counted (size n p) = 0
+counted (overflow p) = 0
+counted (invalid v n p) = 0
+
+sound-counted : (max len : ℕ) (a : Answer) → Sound max len a → counted a ≤ len
+sound-counted max len (ok (pos v) n) s = s .1
+sound-counted max len (ok (negsuc v) n) s = absurd s
+sound-counted max len empty s = omega arith
+sound-counted max len (size n p) s = omega arith
+sound-counted max len (overflow p) s = omega arith
+sound-counted max len (invalid v n p) s = absurd s
+
+negated-counted : (a : Answer) → counted (negated a) ≡ counted a
+negated-counted (ok v n) = refl
+negated-counted empty = refl
+negated-counted (size n p) = refl
+negated-counted (overflow p) = refl
+negated-counted (invalid v n p) = refl
+
+call-counted : (t : NumberType) (neg skip : Bool) (bs : List ℕ) → counted (unsignedCall front t neg skip bs) ≤ length bs
+call-counted t true skip bs = omega (arith, negated-counted (frontUpTo (limit t true) skip bs), sound-counted (limit t true) (length bs) (frontUpTo (limit t true) skip bs) (front-sound (limit t true) bs skip))
+call-counted t false skip bs = sound-counted (limit t false) (length bs) _ (front-sound (limit t false) bs skip)
+
+pub room : (t : NumberType) (neg skip : Bool) (bs : List ℕ) (v : ℤ) (n : ℕ) → 0 < length bs → ok v n ≡ unsignedCall front t neg skip (behind bs) → n + 1 ≤ length bs
+room t neg skip bs v n h is =
+    let l : length (behind bs) ≡ length bs - 1 = ap length (take-rest bs 1) ∙ length-drop 1 bs in
+    omega (arith, ap counted is, call-counted t neg skip (behind bs))

@@ -1,0 +1,5 @@
+pub mod Digits
+pub mod Answer
+pub mod NumberType
+pub mod Calls
+pub mod Block

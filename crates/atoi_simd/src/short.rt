@@ -1,0 +1,76 @@
+// Digits one byte at a time: for the checked calls, and for texts too short to gain from words.
+ghost use mathlib.Core.Path.{_≡_};
+ghost use Prim.Native.Nat.{ℕ, _+_, _-_, _*_, _/_, _%_, _^_, _<_, _≤_};
+ghost use lib.ListN.{length, getD};
+ghost use lib.Dec.{ltb};
+ghost use lib.IntN.{ℤ, pos, negsuc, negℤ, natAbs};
+ghost use lib.Signed.{_≤ℤ_};
+ghost use Rattle.std.specs.Vec.{made};
+ghost use Rattle.atoi_simd.specs.Answer.{prefixBy};
+ghost use Rattle.atoi_simd.specs.Calls.{anyLength, negated};
+ghost use Rattle.atoi_simd.specs.NumberType.{itself};
+use crate::error::AtoiSimdError;
+
+// Whether `res * 10 + digit` is above `max`, without computing it.
+fn overflows(res: u64, digit: u64, max: u64) -> bool
+    requires { ⌜ digit < 10 ⌝ }
+    ensures { λ r. ⌜ r ≡ ltb max (res * 10 + digit) ⌝ }
+{
+    res >= max / 10 && (res > max / 10 || digit > max % 10)
+}
+
+// The digits at the front, as a number of at most `max`.
+pub(crate) fn parse_short_pos(s: &[u8], max: u64) -> Result<(u64, usize), AtoiSimdError<'_>>
+    requires { ⌜ 9 ≤ max ⌝ }
+    ensures value { λ r. ⌜ prefixBy pos r ≡ anyLength max (now (s .entry)) ⌝ }
+    ensures fits { λ r. ⌜ made r (λ p. p .0 ≤ max) ⌝ }
+{
+    let mut i = 0;
+    if s.len() == i {
+        return Err(AtoiSimdError::Empty);
+    }
+    match s[i] {
+        c @ b'0'..=b'9' => {
+            let mut res = (c & 0xF) as u64;
+            i += 1;
+            while s.len() > i {
+                match s[i] {
+                    c @ b'0'..=b'9' => {
+                        let digit = (c & 0xF) as u64;
+                        if overflows(res, digit, max) {
+                            return Err(AtoiSimdError::Overflow(s));
+                        }
+                        res = res * 10 + digit;
+                        i += 1;
+                    }
+                    _ => return Ok((res, i)),
+                }
+            }
+            Ok((res, i))
+        }
+        _ => Err(AtoiSimdError::Empty),
+    }
+}
+
+// The number with the other sign, down to the least i64.
+pub(crate) fn negative(val: u64) -> i64
+    requires { ⌜ val ≤ 2 ^ 63 ⌝ }
+    ensures { λ r. ⌜ r ≡ negℤ (pos val) ⌝ }
+{
+    if val > i64::MAX as u64 {
+        return i64::MIN;
+    }
+    -(val as i64)
+}
+
+// The digits at the front, their value negated, down to `min`.
+pub(crate) fn parse_short_neg(s: &[u8], min: i64) -> Result<(i64, usize), AtoiSimdError<'_>>
+    requires { ⌜ min ≤ℤ negsuc 8 ⌝ }
+    ensures value { λ r. ⌜ prefixBy itself r ≡ negated (anyLength (natAbs min) (now (s .entry))) ⌝ }
+    ensures fits { λ r. ⌜ made r (λ p. (min ≤ℤ p .0) × (p .0 ≤ℤ pos 0)) ⌝ }
+{
+    match parse_short_pos(s, min.unsigned_abs()) {
+        Ok((res, len)) => Ok((negative(res), len)),
+        Err(e) => Err(e),
+    }
+}

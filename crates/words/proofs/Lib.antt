@@ -1,0 +1,13 @@
+pub mod Table
+pub mod Trailing
+pub mod Filled
+pub mod Runs
+pub mod ZeroTest
+pub mod DigitTest
+pub mod Shifted
+pub mod Load
+pub mod Lanes
+pub mod Product
+pub mod Nibbles
+pub mod Leading
+pub mod Values
