@@ -5,6 +5,7 @@ use mathlib.Core.Logic.{⊎-elim}
 use mathlib.Core.List.{List}
 use Prim.Native.Nat.{ℕ, min, _+_, _-_, _*_, _^_, _≤_, _<_}
 use native.Mathlib.Omega.{arith}
+use native.Mathlib.Nat.{pow-le-pow-right}
 use lib.Dec.{eqb}
 use lib.ListN.{length, drop}
 use borrow.Author.Tests.{eq-eqb, ne-eqb}
@@ -15,6 +16,7 @@ use Rattle.atoi_simd.specs.Answer.{Answer, empty}
 use Rattle.words.specs.Bytes.{valueOf}
 use Rattle.atoi_simd.specs.Digits.{run, zeros}
 use Rattle.atoi_simd.specs.Block.{Block, fault, some, blockAt, block}
+use Rattle.atoi_simd.proofs.Runs.{value-below}
 
 abbrev tag : Block → ℕ
 tag (fault a) = 1
@@ -49,8 +51,12 @@ pub record Read (w : ℕ) (count : Bool) (bs : List ℕ) (b : Bool) (v n z : ℕ
   pub zs : z ≡ cond (count && eqb n w) (min w (zeros bs)) 0
   pub full : b ≡ eqb n w
 
-pub read : (w : ℕ) (count : Bool) (bs : List ℕ) (b : Bool) (v n z : ℕ) → some b v n z ≡ block w count bs → Read w count bs b v n z
-read w count bs b v n z e =
+-- the zeros that a full block says
+pub zeros-counted : {w : ℕ} {skip : Bool} {rest : List ℕ} {b : Bool} {v n z : ℕ} → Read w skip rest b v n z → skip ≡ true → n ≡ w → z ≡ min w (zeros rest)
+zeros-counted {w} {skip} {n = n} r t full = r .zs ∙ cond-true (skip && eqb n w) _ _ (ap₂ _&&_ t (eq-eqb n w full))
+
+pub read : (w : ℕ) (count : Bool) (bs : List ℕ) {b : Bool} {v n z : ℕ} → some b v n z ≡ block w count bs → Read w count bs b v n z
+read w count bs {b} {v} {n} {z} e =
     let m = min w (run bs) in
     ⊎-elim
     (λ q. let k : block w count bs ≡ fault empty = cond-true (eqb m 0) _ _ (eq-eqb m 0 q) in
@@ -68,8 +74,16 @@ read w count bs b v n z e =
     })
     (cases-eq m 0)
 
-pub unread : (w : ℕ) (count : Bool) (bs : List ℕ) (a : Answer) → fault a ≡ block w count bs → (a ≡ empty) × (min w (run bs) ≡ 0)
-unread w count bs a e =
+-- sixteen digits are below 10 ^ 16
+pub low-16 : {count : Bool} {bs : List ℕ} {b : Bool} {v n z : ℕ} → Read 16 count bs b v n z → v < 10 ^ 16
+low-16 {bs = bs} {v = v} {n = n} r =
+    let few : n ≤ 16 = omega (arith, r .len) in
+    let below : v < 10 ^ n = subst (λ x. x < 10 ^ n) (sym (r .val)) (value-below n bs (omega (arith, r .len))) in
+    let most : 10 ^ n ≤ 10 ^ 16 = pow-le-pow-right {n = 10} (omega arith) few in
+    omega arith
+
+pub unread : (w : ℕ) (count : Bool) (bs : List ℕ) {a : Answer} → fault a ≡ block w count bs → (a ≡ empty) × (min w (run bs) ≡ 0)
+unread w count bs {a} e =
     let m = min w (run bs) in
     ⊎-elim
     (λ q. let k : block w count bs ≡ fault empty = cond-true (eqb m 0) _ _ (eq-eqb m 0 q) in

@@ -1,7 +1,13 @@
 pub mod Runs
+pub mod Counts
 pub mod ByteWise
 pub mod Blocks
+pub mod TwoWords
+pub mod Skipped
 pub mod Narrow
 pub mod Wide
+pub mod Negated
 pub mod Sound
 pub mod Signs
+pub mod Numerals
+pub mod Computed

@@ -5,16 +5,18 @@ use mathlib.Core.Logic.{⊎-elim}
 use mathlib.Core.List.{List, [], _∷_, _++_, map}
 use Prim.Native.Nat.{ℕ, zero, suc, min, _+_, _-_, _*_, _/_, _%_, _^_, _≤_, _<_}
 use native.Mathlib.Omega.{arith}
-use native.Mathlib.Nat.{pow-suc, mul-assoc, add-mul, zero-add, suc-add, mul-comm}
-use borrow.Author.Tests.{eqb-true}
+use native.Mathlib.Nat.{mul-le-mul-right, zero-add, zero-mul, suc-add}
+use borrow.Author.Tests.{eqb-true, eqb-false}
 use lib.ListN.{length, getD, take, drop}
 use Rattle.std.specs.Text.{asciiDigit}
 use Rattle.std.specs.shelf.Lists.{leading}
 use Rattle.std.specs.shelf.Digits.{number, numberAfter, Under}
 use Rattle.std.proofs.shelf.Digits.{numberAfter-append, numberAfter-ge, number-lt}
-use Rattle.std.proofs.shelf.Lists.{map-append, drop-take, take-take, take-append-drop, length-map, length-take-le, length-drop}
-use Rattle.std.proofs.shelf.Sums.{leading-le-length}
-use Rattle.std.proofs.shelf.Tests.{cases-bool, cond-true, cond-false}
+use Rattle.std.proofs.shelf.Lists.{map-append, drop-take, take-take, take-append-drop, length-map, length-take-le, length-drop, getD-past}
+use Rattle.std.proofs.shelf.Sums.{leading-le-length, leading-drop-yes, leading-drop-no}
+use Rattle.std.proofs.shelf.Tests.{both-ways, cases-bool, cases-lt, cond-true, cond-false}
+use Rattle.words.proofs.Leading.{first-passes}
+use Rattle.words.proofs.Values.{number-after}
 use Rattle.words.specs.Bytes.{front, isZero, valueOf, digitOf}
 use Rattle.atoi_simd.specs.Digits.{run, zeros, value}
 
@@ -69,19 +71,6 @@ front-append (suc m) n [] h = absurd (omega arith)
 front-append (suc m) n (b ∷ bs) h = ap (λ l. b ∷ l) (front-append m n bs (omega arith)) ∙ ap (λ k. front k (b ∷ bs)) (sym (suc-add m n))
 
 -- a value in two parts
-number-after : (n : ℕ) (ds : List ℕ) → numberAfter 10 n ds ≡ n * 10 ^ length ds + number 10 ds
-number-after n [] = omega arith
-number-after n (d ∷ ds) =
-    let P = 10 ^ length ds in
-    let a = number-after (n * 10 + d) ds in
-    let b = number-after (0 + d) ds in
-    let p : 10 ^ suc (length ds) ≡ P * 10 = pow-suc 10 (length ds) in
-    let q : n * 10 ^ suc (length ds) ≡ n * P * 10 = ap (λ m. n * m) p ∙ sym (mul-assoc n P 10) in
-    let t : n * 10 * P ≡ n * P * 10 = mul-assoc n 10 P ∙ ap (λ m. n * m) (mul-comm 10 P) ∙ sym (mul-assoc n P 10) in
-    let u : (n * 10 + d) * P ≡ n * 10 * P + d * P = add-mul (n * 10) d P in
-    let v : (0 + d) * P ≡ d * P = ap (λ m. m * P) (zero-add d) in
-    omega arith
-
 take-split : (bs : List ℕ) (i k : ℕ) → take (i + k) bs ≡ take i bs ++ take k (drop i bs)
 take-split bs i k =
     sym (take-append-drop i (take (i + k) bs))
@@ -171,3 +160,73 @@ pub value-below : (n : ℕ) (bs : List ℕ) → n ≤ run bs → valueOf n bs < 
 value-below n bs h =
     let l : length (map digitOf (take n bs)) ≡ n = length-map (take n bs) digitOf ∙ length-take-le n bs (omega (arith, leading-le-length asciiDigit bs)) in
     subst (λ k. valueOf n bs < 10 ^ k) l (number-lt 10 (map digitOf (take n bs)) (digits-under n bs h))
+
+-- zeros in front do not change the value
+pub value-zeros : (bs : List ℕ) (y : ℕ) → y ≤ zeros bs → value (drop y bs) ≡ value bs
+value-zeros bs y h =
+    let z = zeros-le bs in
+    let l = leading-le-length asciiDigit bs in
+    let r : run (drop y bs) ≡ run bs - y = leading-drop asciiDigit y bs (omega arith) in
+    let t : run bs ≡ y + run (drop y bs) = omega arith in
+    let s : valueOf (y + run (drop y bs)) bs ≡ valueOf y bs * 10 ^ run (drop y bs) + value (drop y bs) = value-split bs y (run (drop y bs)) (omega arith) in
+    let n : valueOf y bs * 10 ^ run (drop y bs) ≡ 0 = ap (λ v. v * 10 ^ run (drop y bs)) (zeros-value y bs h) ∙ zero-mul (10 ^ run (drop y bs)) in
+    sym (ap (λ j. valueOf j bs) t ∙ s ∙ omega arith)
+
+-- a first digit that is not 0
+pub first-digit : (bs : List ℕ) → 0 < run bs → zeros bs ≡ 0 → 1 ≤ valueOf 1 bs
+first-digit [] h o = absurd (omega arith)
+first-digit (b ∷ bs) h o =
+    ⊎-elim
+    (λ e.
+    let lo : 48 ≤ b = grind arith in
+    ⊎-elim
+    (λ q. let z : zeros (b ∷ bs) ≡ 1 + zeros bs = cond-true (isZero b) _ _ q in absurd (omega arith))
+    (λ q. let ne = eqb-false b 48 q in omega arith)
+    (cases-bool (isZero b)))
+    (λ e. let r : run (b ∷ bs) ≡ 0 = cond-false (asciiDigit b) _ _ e in absurd (omega arith))
+    (cases-bool (asciiDigit b))
+
+-- the digit at the front counts in the place above the others
+pub value-cons : (b : ℕ) (bs : List ℕ) → asciiDigit b ≡ true → value (b ∷ bs) ≡ digitOf b * 10 ^ run bs + value bs
+value-cons b bs e =
+    let more : run (b ∷ bs) ≡ suc (run bs) = cond-true (asciiDigit b) _ _ e ∙ omega arith in
+    let ds = map digitOf (take (run bs) bs) in
+    let len : length ds ≡ run bs = length-map (take (run bs) bs) digitOf ∙ length-take-le (run bs) bs (leading-le-length asciiDigit bs) in
+    let first : 0 * 10 + digitOf b ≡ digitOf b = omega arith in
+    ap (λ n. valueOf n (b ∷ bs)) more ∙ ap (λ n. numberAfter 10 n ds) first ∙ number-after (digitOf b) ds ∙ ap (λ n. digitOf b * 10 ^ n + value bs) len
+
+-- digits after the zeros: the first of them is at least 1
+pub value-above : (bs : List ℕ) → zeros bs < run bs → 10 ^ (run bs - zeros bs - 1) ≤ value bs
+value-above [] h = absurd (omega arith)
+value-above (b ∷ bs) h =
+    ⊎-elim
+    (λ e.
+    let d = zero-digit b e in
+    let z : zeros (b ∷ bs) ≡ 1 + zeros bs = cond-true (isZero b) _ _ e in
+    let r : run (b ∷ bs) ≡ 1 + run bs = cond-true (asciiDigit b) _ _ (d .0) in
+    let same : run (b ∷ bs) - zeros (b ∷ bs) - 1 ≡ run bs - zeros bs - 1 = omega arith in
+    let none : digitOf b * 10 ^ run bs ≡ 0 = ap (λ x. digitOf x * 10 ^ run bs) (d .1) ∙ zero-mul (10 ^ run bs) in
+    let ih : 10 ^ (run bs - zeros bs - 1) ≤ value bs = value-above bs (omega arith) in
+    subst (λ k. 10 ^ k ≤ value (b ∷ bs)) (sym same) (omega (arith, value-cons b bs (d .0))))
+    (λ e.
+    let d = first-passes asciiDigit b bs 0 (omega arith) .0 in
+    let z : zeros (b ∷ bs) ≡ 0 = cond-false (isZero b) _ _ e in
+    let r : run (b ∷ bs) ≡ 1 + run bs = cond-true (asciiDigit b) _ _ d in
+    let all : run (b ∷ bs) - zeros (b ∷ bs) - 1 ≡ run bs = omega arith in
+    let lo : 48 ≤ b = grind arith in
+    let some : 1 * 10 ^ run bs ≤ digitOf b * 10 ^ run bs = mul-le-mul-right (10 ^ run bs) (omega (arith, eqb-false b 48 e)) in
+    subst (λ k. 10 ^ k ≤ value (b ∷ bs)) (sym all) (omega (arith, value-cons b bs d)))
+    (cases-bool (isZero b))
+
+-- whether a digit stands at i, behind i digits
+pub run-on : (bs : List ℕ) (i : ℕ) → i ≤ run bs → asciiDigit (getD bs i 0) ≡ true → i < run bs
+run-on bs i h d = ⊎-elim
+    (λ inside. omega (arith, leading-drop asciiDigit i bs h, leading-drop-yes asciiDigit bs i 0 inside d))
+    (λ past. absurd (both-ways (asciiDigit 0) refl (subst (λ b. asciiDigit b ≡ true) (getD-past bs i 0 past) d)))
+    (cases-lt i (length bs))
+
+pub run-over : (bs : List ℕ) (i : ℕ) → i ≤ run bs → asciiDigit (getD bs i 0) ≡ false → run bs ≡ i
+run-over bs i h d = ⊎-elim
+    (λ inside. omega (arith, leading-drop asciiDigit i bs h, leading-drop-no asciiDigit bs i 0 inside d))
+    (λ past. omega (arith, leading-le-length asciiDigit bs))
+    (cases-lt i (length bs))

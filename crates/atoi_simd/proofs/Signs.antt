@@ -80,7 +80,7 @@ negated-counted (invalid v n p) = refl
 
 call-counted : (t : NumberType) (neg skip : Bool) (bs : List ℕ) → counted (unsignedCall front t neg skip bs) ≤ length bs
 call-counted t true skip bs = omega (arith, negated-counted (frontUpTo (limit t true) skip bs), sound-counted (limit t true) (length bs) (frontUpTo (limit t true) skip bs) (front-sound (limit t true) bs skip))
-call-counted t false skip bs = sound-counted (limit t false) (length bs) _ (front-sound (limit t false) bs skip)
+call-counted t false skip bs = sound-counted (limit t false) (length bs) (frontUpTo (limit t false) skip bs) (front-sound (limit t false) bs skip)
 
 pub room : (t : NumberType) (neg skip : Bool) (bs : List ℕ) (v : ℤ) (n : ℕ) → 0 < length bs → ok v n ≡ unsignedCall front t neg skip (behind bs) → n + 1 ≤ length bs
 room t neg skip bs v n h is =

@@ -5,7 +5,7 @@
 ghost use mathlib.Core.Path.{_≡_};
 ghost use Prim.Native.Nat.{ℕ, _+_, _-_, _*_, _/_, _%_, _^_, _<_, _≤_};
 ghost use lib.Dec.{ltb};
-ghost use lib.IntN.{ℤ, pos, negsuc, negℤ, natAbs};
+ghost use lib.IntN.{ℤ, pos, negℤ, natAbs};
 ghost use lib.ListN.{length, getD};
 ghost use lib.Signed.{_≤ℤ_};
 ghost use Rattle.std.specs.Text.{asciiDigit};
@@ -15,15 +15,13 @@ ghost use Rattle.atoi_simd.specs.Block.{blockOf8, blockOf16, block};
 ghost use Rattle.atoi_simd.specs.Calls.{narrow, wide, digitCount, toEnd, anyLength, negated};
 ghost use Rattle.atoi_simd.specs.NumberType.{itself};
 use crate::error::AtoiSimdError;
-use crate::short::negative;
-use crate::short::parse_short_neg;
 use crate::short::parse_short_pos;
 use words::check_len_8;
 use words::len_zeroes;
 use words::len_zeroes_16;
 use words::load_8;
-use words::process_16;
 use words::process_8;
+use words::process_16;
 
 // Texts below this length are read byte by byte.
 const SHORT: usize = 5;
@@ -132,17 +130,29 @@ pub(crate) fn parse_fb_pos(
     Ok((val, len as usize + skipped))
 }
 
+// The number with the other sign, down to the least i64.
+fn negative(val: u64) -> i64
+    requires { ⌜ val ≤ 2 ^ 63 ⌝ }
+    ensures { λ r. ⌜ r ≡ negℤ (pos val) ⌝ }
+{
+    if val > i64::MAX as u64 {
+        return i64::MIN;
+    }
+    -(val as i64)
+}
+
 // The number of 8 to 32 bits at the front, its value negated, down to `min`.
 pub(crate) fn parse_fb_neg(
     s: &[u8],
     min: i64,
     skip_zeroes: bool,
 ) -> Result<(i64, usize), AtoiSimdError<'_>>
-    requires low { ⌜ negsuc (2 ^ 32 - 2) ≤ℤ min ⌝ }
-    requires some { ⌜ min ≤ℤ negsuc 8 ⌝ }
+    requires low { ⌜ natAbs min < 2 ^ 32 ⌝ }
+    requires negative { ⌜ min ≤ℤ pos 0 ⌝ }
     ensures value { λ r. ⌜ prefixBy itself r ≡ negated (narrow (natAbs min) «skip_zeroes» (now (s .entry))) ⌝ }
     ensures fits { λ r. ⌜ made r (λ p. (min ≤ℤ p .0) × (p .0 ≤ℤ pos 0)) ⌝ }
 {
+    let most = min.unsigned_abs();
     let mut rest = s;
     let mut skipped = 0;
     let (val, len) = loop {
@@ -164,7 +174,7 @@ pub(crate) fn parse_fb_neg(
             EarlyReturn::Ret((v, l, _)) => break (v, l),
         }
     };
-    if val > min.unsigned_abs() {
+    if val > most {
         return Err(AtoiSimdError::Overflow(rest));
     }
     if len == 16 && goes_on(rest) {
@@ -238,11 +248,12 @@ pub(crate) fn parse_fb_64_neg(
     s: &[u8],
     skip_zeroes: bool,
 ) -> Result<(i64, usize), AtoiSimdError<'_>>
-    ensures value { λ r. ⌜ prefixBy itself r ≡ negated (wide (2 ^ 63) «skip_zeroes» (now (s .entry))) ⌝ }
-    ensures fits { λ r. ⌜ made r (λ p. p .0 ≤ℤ pos 0) ⌝ }
+    ensures { λ r. ⌜ prefixBy itself r ≡ negated (wide (2 ^ 63) «skip_zeroes» (now (s .entry))) ⌝ }
 {
-    let (val, len) = parse_fb_64_pos(s, i64::MAX as u64 + 1, 3, skip_zeroes)?;
-    Ok((negative(val), len))
+    match parse_fb_64_pos(s, i64::MAX as u64 + 1, 3, skip_zeroes) {
+        Ok((val, len)) => Ok((negative(val), len)),
+        Err(e) => Err(e),
+    }
 }
 
 // All of the text as a number of 8 to 32 bits, of at most `max`.
@@ -260,15 +271,33 @@ pub(crate) fn parse_fb_checked_pos(s: &[u8], max: u64) -> Result<u64, AtoiSimdEr
 
 // All of the text as a number of 8 to 32 bits, its value negated, down to `min`.
 pub(crate) fn parse_fb_checked_neg(s: &[u8], min: i64) -> Result<i64, AtoiSimdError<'_>>
-    requires { ⌜ min ≤ℤ negsuc 8 ⌝ }
+    requires some { ⌜ 9 ≤ natAbs min ⌝ }
+    requires negative { ⌜ min ≤ℤ pos 0 ⌝ }
     ensures value { λ r. ⌜ checkedBy itself (length (now (s .entry))) r ≡ negated (toEnd (now (s .entry)) (anyLength (natAbs min) (now (s .entry)))) ⌝ }
     ensures fits { λ r. ⌜ made r (λ v. (min ≤ℤ v) × (v ≤ℤ pos 0)) ⌝ }
 {
-    let (res, len) = parse_short_neg(s, min)?;
-    if len != s.len() {
-        return Err(AtoiSimdError::Invalid64(res.unsigned_abs(), len, s));
+    match parse_fb_checked_pos(s, min.unsigned_abs()) {
+        Ok(val) => Ok(negative(val)),
+        Err(e) => Err(e),
     }
-    Ok(res)
+}
+
+// The number of 64 bits at the front, a short text byte by byte.
+fn parse_short_or_fb_64_pos(
+    s: &[u8],
+    max: u64,
+    len_more: u32,
+    skip_zeroes: bool,
+) -> Result<(u64, usize), AtoiSimdError<'_>>
+    requires wide { ⌜ 2 ^ 63 - 1 ≤ max ⌝ }
+    requires digits { ⌜ «len_more» + 16 ≡ digitCount max ⌝ }
+    ensures value { λ r. ⌜ prefixBy pos r ≡ wide max «skip_zeroes» (now (s .entry)) ⌝ }
+    ensures fits { λ r. ⌜ made r (λ p. p .0 ≤ max) ⌝ }
+{
+    if s.len() < SHORT {
+        return parse_short_pos(s, max);
+    }
+    parse_fb_64_pos(s, max, len_more, skip_zeroes)
 }
 
 // All of the text as a number of 64 bits, of at most `max`.
@@ -283,11 +312,7 @@ pub(crate) fn parse_fb_checked_64_pos(
     ensures value { λ r. ⌜ checkedBy pos (length (now (s .entry))) r ≡ toEnd (now (s .entry)) (wide max «skip_zeroes» (now (s .entry))) ⌝ }
     ensures fits { λ r. ⌜ made r (λ v. v ≤ max) ⌝ }
 {
-    let (res, len) = if s.len() < SHORT {
-        parse_short_pos(s, max)?
-    } else {
-        parse_fb_64_pos(s, max, len_more, skip_zeroes)?
-    };
+    let (res, len) = parse_short_or_fb_64_pos(s, max, len_more, skip_zeroes)?;
     if len != s.len() {
         return Err(AtoiSimdError::Invalid64(res, len, s));
     }
@@ -295,19 +320,11 @@ pub(crate) fn parse_fb_checked_64_pos(
 }
 
 // All of the text as an i64, its value negated.
-pub(crate) fn parse_fb_checked_64_neg(
-    s: &[u8],
-    skip_zeroes: bool,
-) -> Result<i64, AtoiSimdError<'_>>
-    ensures value { λ r. ⌜ checkedBy itself (length (now (s .entry))) r ≡ negated (toEnd (now (s .entry)) (wide (2 ^ 63) «skip_zeroes» (now (s .entry)))) ⌝ }
+pub(crate) fn parse_fb_checked_64_neg(s: &[u8], skip_zeroes: bool) -> Result<i64, AtoiSimdError<'_>>
+    ensures { λ r. ⌜ checkedBy itself (length (now (s .entry))) r ≡ negated (toEnd (now (s .entry)) (wide (2 ^ 63) «skip_zeroes» (now (s .entry)))) ⌝ }
 {
-    let (res, len) = if s.len() < SHORT {
-        parse_short_neg(s, i64::MIN)?
-    } else {
-        parse_fb_64_neg(s, skip_zeroes)?
-    };
-    if len != s.len() {
-        return Err(AtoiSimdError::Invalid64(res.unsigned_abs(), len, s));
+    match parse_fb_checked_64_pos(s, i64::MAX as u64 + 1, 3, skip_zeroes) {
+        Ok(val) => Ok(negative(val)),
+        Err(e) => Err(e),
     }
-    Ok(res)
 }

@@ -10,6 +10,8 @@ ghost use mathlib.Core.Bool.{true, false};
 ghost use lib.ListN.{length};
 ghost use Rattle.atoi_simd.specs.Answer.{prefixBy, checkedBy};
 ghost use Rattle.atoi_simd.specs.Calls.{front, all, unsignedCall, signedCall};
+ghost use Rattle.atoi_simd.specs.Numeral.{Takes-numerals};
+ghost use Rattle.atoi_simd.specs.Worked.{Worked-cases-hold};
 
 pub mod error;
 mod fallback;
@@ -24,12 +26,12 @@ pub use linker::ParseNeg;
 pub use linker::ParsePos;
 
 // All of the text as a number, a sign before it or not.
-pub fn parse<T: Parse>(
-    s: &[u8],
-    skip_zeroes: bool,
-    skip_plus: bool,
-) -> Result<T, AtoiSimdError<'_>>
-    ensures { λ r. ⌜ checkedBy (T·Number .number) (length (now (s .entry))) r ≡ signedCall all (T·Number .means) «skip_zeroes» «skip_plus» (now (s .entry)) ⌝ }
+//
+// With both skips on it takes exactly the texts that are an optional sign which the type takes,
+// then one or more digits and nothing else, and whose number is one of the type's.
+pub fn parse<T: Parse>(s: &[u8], skip_zeroes: bool, skip_plus: bool) -> Result<T, AtoiSimdError<'_>>
+    ensures value { λ r. ⌜ checkedBy (T·Number .number) (length (now (s .entry))) r ≡ signedCall all (T·Number .means) «skip_zeroes» «skip_plus» (now (s .entry)) ⌝ }
+    ensures numerals { λ r. ⌜ («skip_zeroes» ≡ true → «skip_plus» ≡ true → Takes-numerals (T·Number .means) (T·Number .number) (now (s .entry)) r) ⌝ }
 {
     T::atoi_simd_parse(s, skip_zeroes, skip_plus)
 }
@@ -79,3 +81,8 @@ pub fn parse_prefix_neg<T: ParseNeg>(
 {
     T::atoi_simd_parse_prefix_neg(s, skip_zeroes)
 }
+
+// The definition answers the worked cases, `specs/Worked.antt`, as their table says.
+pub fn worked_cases()
+    ensures { λ _. ⌜ Worked-cases-hold ⌝ }
+{}

@@ -3,12 +3,10 @@ ghost use mathlib.Core.Path.{_≡_};
 ghost use Prim.Native.Nat.{ℕ, _+_, _-_, _*_, _/_, _%_, _^_, _<_, _≤_};
 ghost use lib.ListN.{length, getD};
 ghost use lib.Dec.{ltb};
-ghost use lib.IntN.{ℤ, pos, negsuc, negℤ, natAbs};
-ghost use lib.Signed.{_≤ℤ_};
+ghost use lib.IntN.{ℤ, pos};
 ghost use Rattle.std.specs.Vec.{made};
 ghost use Rattle.atoi_simd.specs.Answer.{prefixBy};
-ghost use Rattle.atoi_simd.specs.Calls.{anyLength, negated};
-ghost use Rattle.atoi_simd.specs.NumberType.{itself};
+ghost use Rattle.atoi_simd.specs.Calls.{anyLength};
 use crate::error::AtoiSimdError;
 
 // Whether `res * 10 + digit` is above `max`, without computing it.
@@ -49,28 +47,5 @@ pub(crate) fn parse_short_pos(s: &[u8], max: u64) -> Result<(u64, usize), AtoiSi
             Ok((res, i))
         }
         _ => Err(AtoiSimdError::Empty),
-    }
-}
-
-// The number with the other sign, down to the least i64.
-pub(crate) fn negative(val: u64) -> i64
-    requires { ⌜ val ≤ 2 ^ 63 ⌝ }
-    ensures { λ r. ⌜ r ≡ negℤ (pos val) ⌝ }
-{
-    if val > i64::MAX as u64 {
-        return i64::MIN;
-    }
-    -(val as i64)
-}
-
-// The digits at the front, their value negated, down to `min`.
-pub(crate) fn parse_short_neg(s: &[u8], min: i64) -> Result<(i64, usize), AtoiSimdError<'_>>
-    requires { ⌜ min ≤ℤ negsuc 8 ⌝ }
-    ensures value { λ r. ⌜ prefixBy itself r ≡ negated (anyLength (natAbs min) (now (s .entry))) ⌝ }
-    ensures fits { λ r. ⌜ made r (λ p. (min ≤ℤ p .0) × (p .0 ≤ℤ pos 0)) ⌝ }
-{
-    match parse_short_pos(s, min.unsigned_abs()) {
-        Ok((res, len)) => Ok((negative(res), len)),
-        Err(e) => Err(e),
     }
 }

@@ -36,7 +36,7 @@ pub digits-value : (k : ℕ) (bs : List ℕ) → k ≤ leading asciiDigit bs →
 digits-value k bs h = ap (number 10) (digit-nibbles k bs h)
 
 -- what stands in front counts in the places above
-number-after : (n : ℕ) (ds : List ℕ) → numberAfter 10 n ds ≡ n * 10 ^ length ds + number 10 ds
+pub number-after : (n : ℕ) (ds : List ℕ) → numberAfter 10 n ds ≡ n * 10 ^ length ds + number 10 ds
 number-after n [] = omega arith
 number-after n (d ∷ ds) =
     let T = 10 ^ length ds in

@@ -3,11 +3,6 @@ ghost use mathlib.Core.Path.{_≡_};
 ghost use Prim.Native.Nat.{ℕ};
 ghost use lib.IntN.{ℤ, pos};
 ghost use Rattle.atoi_simd.specs.NumberType.{unsigned, signed, itself};
-use crate::error::AtoiSimdError;
-use crate::fallback::parse_fb_checked_neg;
-use crate::fallback::parse_fb_checked_pos;
-use crate::fallback::parse_fb_neg;
-use crate::fallback::parse_fb_pos;
 use super::Number;
 use super::Parse;
 use super::ParseNeg;
@@ -16,6 +11,11 @@ use super::atoi_simd_parse_prefix_signed;
 use super::atoi_simd_parse_prefix_unsigned;
 use super::atoi_simd_parse_signed;
 use super::atoi_simd_parse_unsigned;
+use crate::error::AtoiSimdError;
+use crate::fallback::parse_fb_checked_neg;
+use crate::fallback::parse_fb_checked_pos;
+use crate::fallback::parse_fb_neg;
+use crate::fallback::parse_fb_pos;
 
 pub impl Number for u8 as U8Number {
     ghost means = { unsigned 8 };

@@ -3,11 +3,6 @@ ghost use mathlib.Core.Path.{_≡_};
 ghost use Prim.Native.Nat.{ℕ};
 ghost use lib.IntN.{ℤ, pos};
 ghost use Rattle.atoi_simd.specs.NumberType.{unsigned, signed, itself};
-use crate::error::AtoiSimdError;
-use crate::fallback::parse_fb_64_neg;
-use crate::fallback::parse_fb_64_pos;
-use crate::fallback::parse_fb_checked_64_neg;
-use crate::fallback::parse_fb_checked_64_pos;
 use super::Number;
 use super::Parse;
 use super::ParseNeg;
@@ -16,9 +11,15 @@ use super::atoi_simd_parse_prefix_signed;
 use super::atoi_simd_parse_prefix_unsigned;
 use super::atoi_simd_parse_signed;
 use super::atoi_simd_parse_unsigned;
+use crate::error::AtoiSimdError;
+use crate::fallback::parse_fb_64_neg;
+use crate::fallback::parse_fb_64_pos;
+use crate::fallback::parse_fb_checked_64_neg;
+use crate::fallback::parse_fb_checked_64_pos;
 
 // How many digits the greatest number has after its first sixteen.
 const LEN_MORE_U64: u32 = 4;
+
 const LEN_MORE_I64: u32 = 3;
 
 pub impl Number for u64 as U64Number {
@@ -29,20 +30,14 @@ pub impl Number for u64 as U64Number {
 
 pub impl ParsePos for u64 as U64ParsePos {
     fn atoi_simd_parse_pos(s: &[u8], skip_zeroes: bool) -> Result<u64, AtoiSimdError<'_>> {
-        match parse_fb_checked_64_pos(s, u64::MAX, LEN_MORE_U64, skip_zeroes) {
-            Ok(v) => Ok(v),
-            Err(e) => Err(e),
-        }
+        parse_fb_checked_64_pos(s, u64::MAX, LEN_MORE_U64, skip_zeroes)
     }
 
     fn atoi_simd_parse_prefix_pos(
         s: &[u8],
         skip_zeroes: bool,
     ) -> Result<(u64, usize), AtoiSimdError<'_>> {
-        match parse_fb_64_pos(s, u64::MAX, LEN_MORE_U64, skip_zeroes) {
-            Ok((v, l)) => Ok((v, l)),
-            Err(e) => Err(e),
-        }
+        parse_fb_64_pos(s, u64::MAX, LEN_MORE_U64, skip_zeroes)
     }
 }
 
@@ -91,20 +86,14 @@ pub impl ParsePos for i64 as I64ParsePos {
 
 pub impl ParseNeg for i64 as I64ParseNeg {
     fn atoi_simd_parse_neg(s: &[u8], skip_zeroes: bool) -> Result<i64, AtoiSimdError<'_>> {
-        match parse_fb_checked_64_neg(s, skip_zeroes) {
-            Ok(v) => Ok(v),
-            Err(e) => Err(e),
-        }
+        parse_fb_checked_64_neg(s, skip_zeroes)
     }
 
     fn atoi_simd_parse_prefix_neg(
         s: &[u8],
         skip_zeroes: bool,
     ) -> Result<(i64, usize), AtoiSimdError<'_>> {
-        match parse_fb_64_neg(s, skip_zeroes) {
-            Ok((v, l)) => Ok((v, l)),
-            Err(e) => Err(e),
-        }
+        parse_fb_64_neg(s, skip_zeroes)
     }
 }
 

@@ -3,6 +3,8 @@ use mathlib.Core.Bool.{cond, _&&_}
 use Prim.Native.Nat.{ℕ, min, _≤_, _<_}
 use native.Mathlib.Omega.{arith}
 use lib.Dec.{eqb}
+use Rattle.std.specs.Text.{asciiDigit}
+use Rattle.std.specs.shelf.Lists.{leading}
 use Rattle.words.specs.Bytes.{bytesLe}
 use Rattle.atoi_simd.specs.Digits.{run, zeros}
 use Rattle.atoi_simd.proofs.Runs.{front-run, front-zeros, front-value}
@@ -30,5 +32,5 @@ returns c =
         | else-count-zeroes·by·else-count-zeroes x ↦ not-asked 8 _ bs n _ (x .if-count-zeroes .left) (u .zeroes-is)
       ]
     ] in
-    let digits : n ≤ _ = omega (arith, c .check-len-8-len .ensures) in
+    let digits : n ≤ leading asciiDigit w = omega (arith, c .check-len-8-len .ensures) in
     block-some 8 _ bs _ n _ l (omega (arith, c .if-len-eq0 .left)) (c .process-8 .ensures .digits digits ∙ front-value 8 w bs is n (omega arith)) zs
