@@ -2,7 +2,7 @@
 use mathlib.Core.Path.{_≡_, refl, sym, ap, ap₂, _∙_}
 use mathlib.Core.Bool.{Bool, true, false, cond, _&&_}
 use mathlib.Core.List.{List, [], _∷_}
-use Prim.Native.Nat.{ℕ, _+_, _-_, _≤_, _<_}
+use Prim.Native.Nat.{ℕ, _+_, _-_, _^_, _≤_, _<_}
 use native.Mathlib.Omega.{arith}
 use lib.Dec.{eqb}
 use lib.IntN.{ℤ, pos, negsuc}
@@ -10,11 +10,12 @@ use lib.ListN.{length, getD, take, drop}
 use borrow.Author.Tests.{eq-eqb, ne-eqb}
 use Rattle.std.specs.declared.result.Result.{Result}
 use Rattle.std.specs.declared.result.Result.the-variants.{Ok, Err}
+use Rattle.std.specs.Vec.{made}
 use Rattle.std.proofs.shelf.Lists.{take-rest, length-drop}
 use Rattle.std.proofs.shelf.Tests.{cond-true, cond-false, and-right}
 use Rattle.atoi_simd.specs.declared.error.AtoiSimdError.{AtoiSimdError}
 use Rattle.atoi_simd.specs.declared.error.AtoiSimdError.the-variants.{Empty, Size, Overflow, Invalid64}
-use Rattle.atoi_simd.specs.Answer.{Answer, ok, empty, size, overflow, invalid, faultOf, checkedBy}
+use Rattle.atoi_simd.specs.Answer.{Answer, ok, empty, size, overflow, invalid, faultOf, checkedBy, prefixBy}
 use Rattle.atoi_simd.specs.Calls.{Extent, front, frontUpTo, unsignedCall, signedCall, negated, afterSign}
 use Rattle.atoi_simd.specs.NumberType.{NumberType, takesMinus, limit}
 use Rattle.atoi_simd.proofs.Sound.{Sound, front-sound}
@@ -40,7 +41,7 @@ module _ (e : Extent) (t : NumberType) (skip plus : Bool) where
       ∙ cond-true (takesMinus t && eqb b 45) _ _ (ap₂ _&&_ m (eq-eqb b 45 f)))
 
 -- a fault says nothing of the sign
-pub fault-same : (e : AtoiSimdError) → faultOf e ≡ afterSign (faultOf e)
+fault-same : (e : AtoiSimdError) → faultOf e ≡ afterSign (faultOf e)
 fault-same Empty = refl
 fault-same (Size n p) = refl
 fault-same (Overflow p) = refl
@@ -82,7 +83,9 @@ call-counted : (t : NumberType) (neg skip : Bool) (bs : List ℕ) → counted (u
 call-counted t true skip bs = omega (arith, negated-counted (frontUpTo (limit t true) skip bs), sound-counted (limit t true) (length bs) (frontUpTo (limit t true) skip bs) (front-sound (limit t true) bs skip))
 call-counted t false skip bs = sound-counted (limit t false) (length bs) (frontUpTo (limit t false) skip bs) (front-sound (limit t false) bs skip)
 
-pub room : (t : NumberType) (neg skip : Bool) (bs : List ℕ) (v : ℤ) (n : ℕ) → 0 < length bs → ok v n ≡ unsignedCall front t neg skip (behind bs) → n + 1 ≤ length bs
-room t neg skip bs v n h is =
+pub room : {V : Type 0} (number : V → ℤ) (t : NumberType) (neg skip : Bool) (bs : List ℕ) (r : Result (V × ℕ) AtoiSimdError) → 0 < length bs → length bs < 2 ^ 64 →
+    prefixBy number r ≡ unsignedCall front t neg skip (behind bs) → made r (λ p. p .1 + 1 < 2 ^ 64)
+room number t neg skip bs (Ok p) h few is =
     let l : length (behind bs) ≡ length bs - 1 = ap length (take-rest bs 1) ∙ length-drop 1 bs in
     omega (arith, ap counted is, call-counted t neg skip (behind bs))
+room number t neg skip bs (Err e) h few is = tt

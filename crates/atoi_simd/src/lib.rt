@@ -24,6 +24,34 @@ pub use linker::Number;
 pub use linker::Parse;
 pub use linker::ParseNeg;
 pub use linker::ParsePos;
+pub use linker::fb_32::I8Number;
+pub use linker::fb_32::I8Parse;
+pub use linker::fb_32::I8ParseNeg;
+pub use linker::fb_32::I8ParsePos;
+pub use linker::fb_32::I16Number;
+pub use linker::fb_32::I16Parse;
+pub use linker::fb_32::I16ParseNeg;
+pub use linker::fb_32::I16ParsePos;
+pub use linker::fb_32::I32Number;
+pub use linker::fb_32::I32Parse;
+pub use linker::fb_32::I32ParseNeg;
+pub use linker::fb_32::I32ParsePos;
+pub use linker::fb_32::U8Number;
+pub use linker::fb_32::U8Parse;
+pub use linker::fb_32::U8ParsePos;
+pub use linker::fb_32::U16Number;
+pub use linker::fb_32::U16Parse;
+pub use linker::fb_32::U16ParsePos;
+pub use linker::fb_32::U32Number;
+pub use linker::fb_32::U32Parse;
+pub use linker::fb_32::U32ParsePos;
+pub use linker::fb_64::I64Number;
+pub use linker::fb_64::I64Parse;
+pub use linker::fb_64::I64ParseNeg;
+pub use linker::fb_64::I64ParsePos;
+pub use linker::fb_64::U64Number;
+pub use linker::fb_64::U64Parse;
+pub use linker::fb_64::U64ParsePos;
 
 // All of the text as a number, a sign before it or not.
 //

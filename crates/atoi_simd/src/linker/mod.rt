@@ -1,11 +1,12 @@
 // The sign, and the choice of the reader by the number type.
 ghost use mathlib.Core.Path.{_≡_};
 ghost use mathlib.Core.Bool.{Bool, true, false};
-ghost use Prim.Native.Nat.{ℕ};
+ghost use Prim.Native.Nat.{ℕ, _+_, _^_, _<_};
 ghost use lib.IntN.{ℤ};
 ghost use lib.ListN.{length};
+ghost use Rattle.std.specs.Vec.{made};
 ghost use Rattle.atoi_simd.specs.Answer.{prefixBy, checkedBy};
-ghost use Rattle.atoi_simd.specs.Calls.{front, all, unsignedCall, signedCall};
+ghost use Rattle.atoi_simd.specs.Calls.{front, all, unsignedCall, signedCall, afterSign};
 ghost use Rattle.atoi_simd.specs.NumberType.{NumberType, Whole, takesMinus};
 use crate::error::AtoiSimdError;
 
@@ -77,6 +78,19 @@ fn atoi_simd_parse_unsigned<T: ParsePos>(
     }
 }
 
+// A result for what stands behind a sign, with the sign counted as a byte read.
+fn after_sign<T>(
+    result: Result<(T, usize), AtoiSimdError<'_>>,
+) -> Result<(T, usize), AtoiSimdError<'_>>
+    requires { ⌜ made result (λ p. p .1 + 1 < 2 ^ 64) ⌝ }
+    ensures { λ r. ⌜ ((number : T → ℤ) → prefixBy number r ≡ afterSign (prefixBy number (result .entry))) ⌝ }
+{
+    match result {
+        Ok((v, l)) => Ok((v, l + 1)),
+        Err(e) => Err(e),
+    }
+}
+
 // The same at the front of a text; the sign counts as a byte read.
 fn atoi_simd_parse_prefix_unsigned<T: ParsePos>(
     s: &[u8],
@@ -87,10 +101,9 @@ fn atoi_simd_parse_prefix_unsigned<T: ParsePos>(
     ensures { λ r. ⌜ prefixBy (T·Number .number) r ≡ signedCall front (T·Number .means) «skip_zeroes» «skip_plus» (now (s .entry)) ⌝ }
 {
     match s {
-        [b'+', rest @ ..] if skip_plus => match T::atoi_simd_parse_prefix_pos(rest, skip_zeroes) {
-            Ok((v, l)) => Ok((v, l + 1)),
-            Err(e) => Err(e),
-        },
+        [b'+', rest @ ..] if skip_plus => {
+            after_sign(T::atoi_simd_parse_prefix_pos(rest, skip_zeroes))
+        }
         _ => T::atoi_simd_parse_prefix_pos(s, skip_zeroes),
     }
 }
@@ -121,14 +134,10 @@ fn atoi_simd_parse_prefix_signed<T: ParsePos + ParseNeg>(
     ensures { λ r. ⌜ prefixBy (T·Number .number) r ≡ signedCall front (T·Number .means) «skip_zeroes» «skip_plus» (now (s .entry)) ⌝ }
 {
     match s {
-        [b'+', rest @ ..] if skip_plus => match T::atoi_simd_parse_prefix_pos(rest, skip_zeroes) {
-            Ok((v, l)) => Ok((v, l + 1)),
-            Err(e) => Err(e),
-        },
-        [b'-', rest @ ..] => match T::atoi_simd_parse_prefix_neg(rest, skip_zeroes) {
-            Ok((v, l)) => Ok((v, l + 1)),
-            Err(e) => Err(e),
-        },
+        [b'+', rest @ ..] if skip_plus => {
+            after_sign(T::atoi_simd_parse_prefix_pos(rest, skip_zeroes))
+        }
+        [b'-', rest @ ..] => after_sign(T::atoi_simd_parse_prefix_neg(rest, skip_zeroes)),
         _ => T::atoi_simd_parse_prefix_pos(s, skip_zeroes),
     }
 }
