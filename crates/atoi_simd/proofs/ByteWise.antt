@@ -1,7 +1,7 @@
 -- The steps of a reader that goes byte by byte.
-use mathlib.Core.Path.{_≡_, refl, sym, ap, subst, _∙_}
-use mathlib.Core.Bool.{Bool, true, false, cond}
-use mathlib.Core.List.{List, [], _∷_, _++_, map}
+use mathlib.Core.Path.{_≡_, sym, ap, subst, _∙_}
+use mathlib.Core.Bool.{true, false}
+use mathlib.Core.List.{List, map}
 use Prim.Native.Nat.{ℕ, _+_, _-_, _*_, _≤_, _<_}
 use native.Mathlib.Omega.{arith}
 use lib.Dec.{leb, eqb}
@@ -10,13 +10,12 @@ use borrow.Author.Tests.{eq-eqb, ne-eqb, le-leb, lt-leb}
 use lib.Bits.{bitAnd, and-mask}
 use lib.ListN.{length, getD, take, drop}
 use Rattle.std.specs.Text.{asciiDigit}
-use Rattle.std.specs.shelf.Lists.{leading}
 use Rattle.std.specs.shelf.Digits.{number}
 use Rattle.std.proofs.shelf.Digits.{number-push}
 use Rattle.std.proofs.shelf.Lists.{map-more}
 use Rattle.std.proofs.shelf.Tests.{cond-true, cond-false}
 use Rattle.std.proofs.shelf.Sums.{leading-drop-yes, leading-drop-no, leading-drop-all}
-use Rattle.atoi_simd.specs.Answer.{Answer, ok, empty, overflow}
+use Rattle.atoi_simd.specs.Answer.{ok, empty, overflow}
 use Rattle.words.specs.Bytes.{digitOf, valueOf}
 use Rattle.atoi_simd.specs.Digits.{run, value}
 use Rattle.atoi_simd.specs.Calls.{anyLength}
@@ -26,13 +25,13 @@ use Rattle.atoi_simd.proofs.Runs.{value-grows}
 pub is-digit : (b : ℕ) → 48 ≤ b → b ≤ 57 → asciiDigit b ≡ true
 is-digit b h k = grind arith
 
-pub no-digit : (b : ℕ) → (48 ≤ b → b ≤ 57 → ⊥) → asciiDigit b ≡ false
+no-digit : (b : ℕ) → (48 ≤ b → b ≤ 57 → ⊥) → asciiDigit b ≡ false
 no-digit b n = grind arith
 
 pub digit-and : (b : ℕ) → 48 ≤ b → b ≤ 57 → bitAnd b 15 ≡ digitOf b
 digit-and b h k = and-mask b 4 ∙ omega arith
 
-pub value-step : (bs : List ℕ) (i : ℕ) → i < length bs → valueOf (i + 1) bs ≡ valueOf i bs * 10 + digitOf (getD bs i 0)
+value-step : (bs : List ℕ) (i : ℕ) → i < length bs → valueOf (i + 1) bs ≡ valueOf i bs * 10 + digitOf (getD bs i 0)
 value-step bs i h = ap (number 10) (map-more digitOf bs i 0 h) ∙ number-push 10 (map digitOf (take i bs)) (digitOf (getD bs i 0))
 
 pub any-empty : (max : ℕ) (bs : List ℕ) → run bs ≡ 0 → anyLength max bs ≡ empty
@@ -42,7 +41,7 @@ pub any-ok : (max : ℕ) (bs : List ℕ) → 0 < run bs → value bs ≤ max →
 any-ok max bs h k =
     cond-false (eqb (run bs) 0) _ _ (ne-eqb (run bs) 0 (λ z. omega arith)) ∙ cond-true (leb (value bs) max) _ _ (le-leb (value bs) max k)
 
-pub any-over : (max : ℕ) (bs : List ℕ) → 0 < run bs → max < value bs → anyLength max bs ≡ overflow bs
+any-over : (max : ℕ) (bs : List ℕ) → 0 < run bs → max < value bs → anyLength max bs ≡ overflow bs
 any-over max bs h k =
     cond-false (eqb (run bs) 0) _ _ (ne-eqb (run bs) 0 (λ z. omega arith)) ∙ cond-false (leb (value bs) max) _ _ (lt-leb (value bs) max k)
 

@@ -68,7 +68,7 @@ signed-by e t zeroes plus [] = refl
 signed-by front t zeroes plus (b ∷ bs) = refl
 signed-by all t zeroes plus (b ∷ bs) = refl
 
-abbrev pub computed : Case → Answer
+abbrev computed : Case → Answer
 computed c = signedBy count (c .call) (c .type) (c .zeroes) (c .plus) (c .text)
 
 computed-is : (c : Case) → answered c ≡ computed c

@@ -1,26 +1,26 @@
 -- The steps of the reader of 8 to 32 bits.
 use mathlib.Core.Path.{_≡_, refl, sym, ap, ap₂, subst, _∙_}
-use mathlib.Core.Bool.{Bool, true, false, cond, _&&_}
+use mathlib.Core.Bool.{Bool, true, false, cond}
 use mathlib.Core.Logic.{_⊎_, ⊎-elim}
-use mathlib.Core.List.{List, [], _∷_}
+use mathlib.Core.List.{List}
 use Prim.Native.Nat.{ℕ, min, _+_, _-_, _*_, _/_, _%_, _^_, _≤_, _<_}
 use native.Mathlib.Omega.{arith}
 use native.Mathlib.Nat.{zero-add}
 use lib.Dec.{eqb, leb}
 use lib.IntN.{pos}
-use lib.ListN.{length, getD, take, drop}
+use lib.ListN.{length, getD, drop}
 use borrow.Author.Tests.{eq-eqb, ne-eqb, le-leb, lt-leb, eqb-true, eqb-false}
 use Rattle.std.specs.Text.{asciiDigit}
 use Rattle.std.proofs.shelf.Lists.{drop-drop}
 use Rattle.std.proofs.shelf.Sums.{leading-le-length}
 use Rattle.std.proofs.shelf.Tests.{cond-true, cond-false, cases-lt, both-ways}
 use Rattle.words.specs.Bytes.{isZero, valueOf}
-use Rattle.atoi_simd.specs.Answer.{Answer, ok, empty, size, overflow, invalid}
+use Rattle.atoi_simd.specs.Answer.{Answer, ok, empty, size, overflow}
 use Rattle.atoi_simd.specs.Digits.{run, zeros, value}
 use Rattle.atoi_simd.specs.Calls.{passed, skipping, plain, narrow}
 use Rattle.atoi_simd.proofs.Runs.{leading-drop, value-split, value-grows, value-zeros, zeros-le, first-digit, run-on, run-over}
 use Rattle.atoi_simd.proofs.Blocks.{Read, zeros-counted}
-use Rattle.atoi_simd.proofs.Skipped.{Skipped, addTo, add-none, by-skip, all-left, some-digits, answers, next}
+use Rattle.atoi_simd.proofs.Skipped.{Skipped, addTo, by-skip, all-left, some-digits, answers, next}
 
 -- ---- the definition, by cases
 

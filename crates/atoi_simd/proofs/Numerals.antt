@@ -29,7 +29,7 @@ use Rattle.atoi_simd.proofs.Runs.{value-above, value-cons}
 
 -- ---- digits only, by the run of digits and its value
 
-pub decimal-value : (text : List ℕ) (n : ℕ) → Decimal text n → (run text ≡ length text) × (n ≡ value text)
+decimal-value : (text : List ℕ) (n : ℕ) → Decimal text n → (run text ≡ length text) × (n ≡ value text)
 decimal-value text n none = (refl, refl)
 decimal-value text n (digit {text = rest} {n = m} d h ds) =
     let is = decimal-value rest m ds in
@@ -39,7 +39,7 @@ decimal-value text n (digit {text = rest} {n = m} d h ds) =
     let whole = value-cons (48 + d) rest e in
     (omega arith, cc)
 
-pub decimal-run : (text : List ℕ) → run text ≡ length text → Decimal text (value text)
+decimal-run : (text : List ℕ) → run text ≡ length text → Decimal text (value text)
 decimal-run [] e = none
 decimal-run (b ∷ bs) e =
     let f = first-passes asciiDigit b bs (length bs) (omega arith) .0 in

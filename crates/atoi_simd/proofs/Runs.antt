@@ -1,9 +1,9 @@
 -- The digits at the front of a text: their run, the zeros that lead it, and their value.
-use mathlib.Core.Path.{_≡_, refl, sym, ap, ap₂, subst, _∙_}
-use mathlib.Core.Bool.{Bool, true, false, cond, _&&_}
+use mathlib.Core.Path.{_≡_, refl, sym, ap, subst, _∙_}
+use mathlib.Core.Bool.{Bool, true, false}
 use mathlib.Core.Logic.{⊎-elim}
 use mathlib.Core.List.{List, [], _∷_, _++_, map}
-use Prim.Native.Nat.{ℕ, zero, suc, min, _+_, _-_, _*_, _/_, _%_, _^_, _≤_, _<_}
+use Prim.Native.Nat.{ℕ, zero, suc, min, _+_, _-_, _*_, _^_, _≤_, _<_}
 use native.Mathlib.Omega.{arith}
 use native.Mathlib.Nat.{mul-le-mul-right, zero-add, zero-mul, suc-add}
 use borrow.Author.Tests.{eqb-true, eqb-false}
@@ -27,7 +27,7 @@ module _ (p : ℕ → Bool) (no : p 0 ≡ false) where
   front-none zero = refl
   front-none (suc n) = cond-false (p 0) _ _ no
 
-  pub front-leading : (n : ℕ) (bs : List ℕ) → leading p (front n bs) ≡ min n (leading p bs)
+  front-leading : (n : ℕ) (bs : List ℕ) → leading p (front n bs) ≡ min n (leading p bs)
   unfolding front
   front-leading zero bs = omega arith
   front-leading (suc n) [] = front-none (suc n) ∙ omega arith
@@ -44,7 +44,7 @@ module _ (p : ℕ → Bool) (no : p 0 ≡ false) where
       omega arith)
       (cases-bool (p b))
 
-pub front-take : (n k : ℕ) (bs : List ℕ) → k ≤ n → k ≤ length bs → take k (front n bs) ≡ take k bs
+front-take : (n k : ℕ) (bs : List ℕ) → k ≤ n → k ≤ length bs → take k (front n bs) ≡ take k bs
 unfolding front
 front-take n zero bs h l = refl
 front-take zero (suc k) bs h l = absurd (omega arith)
@@ -130,7 +130,7 @@ zeros-le (b ∷ bs) =
     (cases-bool (isZero b))
 
 -- and have no value
-pub zeros-value : (k : ℕ) (bs : List ℕ) → k ≤ zeros bs → valueOf k bs ≡ 0
+zeros-value : (k : ℕ) (bs : List ℕ) → k ≤ zeros bs → valueOf k bs ≡ 0
 zeros-value zero bs h = refl
 zeros-value (suc k) [] h = refl
 zeros-value (suc k) (b ∷ bs) h =
@@ -143,7 +143,7 @@ zeros-value (suc k) (b ∷ bs) h =
     (cases-bool (isZero b))
 
 -- n digits have a value below 10 ^ n
-pub digits-under : (n : ℕ) (bs : List ℕ) → n ≤ run bs → Under 10 (map digitOf (take n bs))
+digits-under : (n : ℕ) (bs : List ℕ) → n ≤ run bs → Under 10 (map digitOf (take n bs))
 digits-under zero bs h = tt
 digits-under (suc n) [] h = tt
 digits-under (suc n) (b ∷ bs) h =

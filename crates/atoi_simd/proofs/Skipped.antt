@@ -22,7 +22,7 @@ addTo k (size n p) = size (n + k) p
 addTo k (overflow p) = overflow p
 addTo k (invalid v n p) = invalid v n p
 
-pub add-none : (a : Answer) → addTo 0 a ≡ a
+add-none : (a : Answer) → addTo 0 a ≡ a
 add-none (ok v n) = ap (ok v) (omega arith)
 add-none empty = refl
 add-none (size n p) = ap (λ m. size m p) (omega arith)

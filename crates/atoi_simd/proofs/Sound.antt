@@ -1,11 +1,11 @@
 -- What an answer can be: a value that was read is at most the greatest one, its bytes are there, and no prefix call says that bytes follow.
 use mathlib.Core.Path.{_≡_, subst}
 use mathlib.Core.Bool.{Bool, true, false, cond}
-use mathlib.Core.List.{List, [], _∷_}
-use Prim.Native.Nat.{ℕ, min, _+_, _-_, _≤_, _<_}
+use mathlib.Core.List.{List}
+use Prim.Native.Nat.{ℕ, min, _-_, _≤_}
 use native.Mathlib.Omega.{arith}
 use lib.Dec.{eqb, leb}
-use lib.IntN.{ℤ, pos, negsuc}
+use lib.IntN.{pos, negsuc}
 use lib.ListN.{length}
 use Rattle.std.specs.Text.{asciiDigit}
 use Rattle.std.proofs.shelf.Sums.{leading-le-length}
@@ -13,7 +13,7 @@ use Rattle.std.proofs.shelf.Tests.{cond-both, leb-true, leb-false}
 use Rattle.words.specs.Bytes.{valueOf}
 use Rattle.atoi_simd.specs.Answer.{Answer, ok, empty, size, overflow, invalid}
 use Rattle.atoi_simd.specs.Digits.{run, zeros, value}
-use Rattle.atoi_simd.specs.Calls.{narrow, skipping, plain, wide, wideAfter, digitCount, anyLength, isWide, frontUpTo}
+use Rattle.atoi_simd.specs.Calls.{narrow, skipping, plain, wide, wideAfter, digitCount, isWide, frontUpTo}
 
 -- a natural number of at most max, of at most len bytes
 abbrev pub Sound : ℕ → ℕ → Answer → Type 0
@@ -49,15 +49,12 @@ module _ (max : ℕ) (bs : List ℕ) where
       (λ e. cond-both (leb (value bs) max) _ _ S (λ f. (leb-true (value bs) max f, run-len)) (λ f. tt))
       (λ e. tt)
 
-  pub narrow-is-sound : (skip : Bool) → S (narrow max skip bs)
+  narrow-is-sound : (skip : Bool) → S (narrow max skip bs)
   narrow-is-sound true = cond-both (eqb (run bs) 0) _ _ S (λ e. tt) (λ e. skipping-sound)
   narrow-is-sound false = cond-both (eqb (run bs) 0) _ _ S (λ e. tt) (λ e. plain-sound)
 
-  pub wide-is-sound : (skip : Bool) → S (wide max skip bs)
+  wide-is-sound : (skip : Bool) → S (wide max skip bs)
   wide-is-sound skip = cond-both (eqb (run bs) 0) _ _ S (λ e. tt) (λ e. wide-sound (cond skip (zeros bs) 0))
 
   pub front-sound : (skip : Bool) → S (frontUpTo max skip bs)
   front-sound skip = cond-both (isWide max) _ _ S (λ e. wide-is-sound skip) (λ e. narrow-is-sound skip)
-
-  pub any-sound : S (anyLength max bs)
-  any-sound = cond-both (eqb (run bs) 0) _ _ S (λ e. tt) (λ e. cond-both (leb (value bs) max) _ _ S (λ f. (leb-true (value bs) max f, run-len)) (λ f. tt))

@@ -2,7 +2,7 @@
 use mathlib.Core.Path.{_≡_, refl, sym, ap, ap₂, _∙_}
 use mathlib.Core.Bool.{Bool, true, false, cond, _&&_}
 use mathlib.Core.List.{List, _++_}
-use Prim.Native.Nat.{ℕ, min, _+_, _-_, _%_, _≤_, _<_}
+use Prim.Native.Nat.{ℕ, min, _+_, _-_, _≤_, _<_}
 use native.Mathlib.Omega.{arith}
 use lib.Bits.{bitAnd, and-mask}
 use lib.Dec.{eqb}
@@ -11,13 +11,13 @@ use borrow.Author.Tests.{eq-eqb, ne-eqb}
 use Rattle.std.specs.Text.{asciiDigit}
 use Rattle.std.specs.shelf.Lists.{leading}
 use Rattle.std.proofs.shelf.Sums.{leading-le-length}
-use Rattle.words.specs.Bytes.{bytesLe, front, isZero, nibbleValue, valueOf}
+use Rattle.words.specs.Bytes.{bytesLe, front, isZero, valueOf}
 use Rattle.words.proofs.Values.{digits-value}
 use Rattle.atoi_simd.specs.Digits.{run, zeros}
 use Rattle.atoi_simd.specs.Answer.{empty}
-use Rattle.atoi_simd.specs.Block.{Block, fault, some, block}
+use Rattle.atoi_simd.specs.Block.{fault, some, block}
 use Rattle.atoi_simd.proofs.Runs.{front-run, front-zeros, front-value, front-append, leading-drop}
-use Rattle.atoi_simd.proofs.Blocks.{block-none, block-some, counted, not-full, not-asked}
+use Rattle.atoi_simd.proofs.Blocks.{block-none, block-some, counted, not-full}
 
 -- the first of a word's bytes, a digit
 pub one-digit : (w : ℕ) → 1 ≤ leading asciiDigit (bytesLe 8 w) → bitAnd w 15 ≡ valueOf 1 (bytesLe 8 w)
@@ -26,7 +26,7 @@ one-digit w h = and-mask w 4 ∙ omega arith ∙ digits-value 1 (bytesLe 8 w) h
 
 -- w has the first eight bytes, n of which are digits at the front
 module _ (count : Bool) (bs w : List ℕ) (n : ℕ) (is : w ≡ front 8 bs) (len : n ≡ leading asciiDigit w) where
-  pub first-run : n ≡ min 8 (run bs)
+  first-run : n ≡ min 8 (run bs)
   first-run = len ∙ front-run 8 w bs is
 
   pub none : n ≡ 0 → fault empty ≡ block 16 count bs

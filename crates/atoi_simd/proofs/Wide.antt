@@ -1,21 +1,21 @@
 -- The steps of the reader of 64 bits.
 use mathlib.Core.Path.{_≡_, refl, sym, ap, ap₂, subst, _∙_}
 use mathlib.Core.Bool.{Bool, true, false, cond, _&&_}
-use mathlib.Core.Logic.{_⊎_, inl, inr, ⊎-elim}
-use mathlib.Core.List.{List, [], _∷_}
+use mathlib.Core.Logic.{_⊎_, ⊎-elim}
+use mathlib.Core.List.{List}
 use Prim.Native.Nat.{ℕ, min, _+_, _-_, _*_, _/_, _%_, _^_, _≤_, _<_}
 use native.Mathlib.Omega.{arith}
 use native.Mathlib.Nat.{zero-add, pow-le-pow-right, div-add-mod', mul-le-mul-right, add-mul, mod-lt}
 use lib.Dec.{eqb, leb, ltb}
 use lib.IntN.{pos}
-use lib.ListN.{length, getD, take, drop}
-use borrow.Author.Tests.{eq-eqb, ne-eqb, le-leb, lt-leb, eqb-true, eqb-false, lt-true, le-false, lt-ltb, le-ltb}
+use lib.ListN.{length, drop}
+use borrow.Author.Tests.{eq-eqb, ne-eqb, le-leb, lt-leb, eqb-true, eqb-false, lt-true, le-false}
 use Rattle.std.specs.Text.{asciiDigit}
 use Rattle.std.proofs.shelf.Lists.{drop-drop}
 use Rattle.std.proofs.shelf.Sums.{leading-le-length}
 use Rattle.std.proofs.shelf.Tests.{cond-true, cond-false, cases-eq, cases-lt, cases-bool, both-ways}
 use Rattle.words.specs.Bytes.{isZero, valueOf}
-use Rattle.atoi_simd.specs.Answer.{Answer, ok, empty, size, overflow, invalid}
+use Rattle.atoi_simd.specs.Answer.{Answer, ok, empty, size, overflow}
 use Rattle.atoi_simd.specs.Digits.{run, zeros, value}
 use Rattle.atoi_simd.specs.Calls.{anyLength, digitCount, wideAfter, wide}
 use Rattle.atoi_simd.proofs.Runs.{leading-drop, value-split, value-below, value-zeros, zeros-le}
@@ -67,7 +67,7 @@ unfolding wideBody
 wide-is max skip bs h = sym (cond-false (eqb (run bs) 0) _ _ (ne-eqb (run bs) 0 (λ e. omega arith)))
 
 -- n digits fit where the greatest number has more
-pub fits-below : (max : ℕ) (skip : Bool) (rest : List ℕ) (n : ℕ) → run rest ≡ n → n < digitCount max → wideBody max skip rest ≡ ok (pos (valueOf n rest)) n
+fits-below : (max : ℕ) (skip : Bool) (rest : List ℕ) (n : ℕ) → run rest ≡ n → n < digitCount max → wideBody max skip rest ≡ ok (pos (valueOf n rest)) n
 unfolding wideBody
 fits-below max skip rest n e h =
     let b : value rest < 10 ^ n = subst (λ j. valueOf j rest < 10 ^ n) (sym e) (value-below n rest (omega arith)) in
@@ -104,22 +104,11 @@ module _ (val shift more max : ℕ) (small : more < shift) where
       let b : (val + 1) * shift ≡ val * shift + 1 * shift = add-mul val 1 shift in
       omega (arith, split)
 
-  level : val ≡ max / shift → val * shift ≡ max / shift * shift
-  level e = ap (λ x. x * shift) e
-
   pub over-above : max / shift < val → true ≡ ltb max (val * shift + more)
   over-above h = lt-true max (val * shift + more) (above h)
 
   pub over-below : val < max / shift → false ≡ ltb max (val * shift + more)
   over-below h = le-false max (val * shift + more) (below h)
-
-  pub over-level : val ≡ max / shift → ltb (max % shift) more ≡ ltb max (val * shift + more)
-  over-level e =
-      let l = level e in
-      ⊎-elim
-      (λ h. lt-ltb (max % shift) more h ∙ lt-true max (val * shift + more) (omega (arith, split)))
-      (λ h. le-ltb (max % shift) more h ∙ le-false max (val * shift + more) (omega (arith, split)))
-      (cases-lt (max % shift) more)
 
 -- ---- the ways on and out of the loop
 

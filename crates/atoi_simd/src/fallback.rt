@@ -3,7 +3,7 @@
 // A text is read in words of eight bytes; see the crate `words` for what is done with one.
 // Where zeros are skipped, a loop leaves out zeros as long as only zeros would fill the words.
 ghost use mathlib.Core.Path.{_≡_};
-ghost use Prim.Native.Nat.{ℕ, _+_, _-_, _*_, _/_, _%_, _^_, _<_, _≤_};
+ghost use Prim.Native.Nat.{_+_, _-_, _*_, _^_, _<_, _≤_};
 ghost use lib.Dec.{ltb};
 ghost use lib.IntN.{ℤ, pos, negℤ, natAbs};
 ghost use lib.ListN.{length, getD};

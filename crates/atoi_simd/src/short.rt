@@ -1,9 +1,8 @@
 // Digits one byte at a time: for the checked calls, and for texts too short to gain from words.
 ghost use mathlib.Core.Path.{_≡_};
-ghost use Prim.Native.Nat.{ℕ, _+_, _-_, _*_, _/_, _%_, _^_, _<_, _≤_};
-ghost use lib.ListN.{length, getD};
+ghost use Prim.Native.Nat.{_+_, _*_, _<_, _≤_};
 ghost use lib.Dec.{ltb};
-ghost use lib.IntN.{ℤ, pos};
+ghost use lib.IntN.{pos};
 ghost use Rattle.std.specs.Vec.{made};
 ghost use Rattle.atoi_simd.specs.Answer.{prefixBy};
 ghost use Rattle.atoi_simd.specs.Calls.{anyLength};

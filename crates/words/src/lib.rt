@@ -4,7 +4,7 @@
 // operations and no loop. Every function here is total: it says what it answers for any word.
 ghost use mathlib.Core.Path.{_≡_};
 ghost use mathlib.Core.List.{_++_};
-ghost use Prim.Native.Nat.{ℕ, _+_, _-_, _*_, _/_, _%_, _^_, _<_, _≤_};
+ghost use Prim.Native.Nat.{_+_, _≤_};
 ghost use lib.ListN.{length};
 ghost use Rattle.std.specs.Text.{asciiDigit};
 ghost use Rattle.std.specs.shelf.Lists.{leading};

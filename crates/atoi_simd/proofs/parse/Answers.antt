@@ -1,4 +1,4 @@
-use mathlib.Core.Path.{_≡_, ap₂, _∙_}
+use mathlib.Core.Path.{ap₂, _∙_}
 use Rattle.atoi_simd.specs.Calls.{all, signedCall}
 use Rattle.atoi_simd.proofs.Numerals.{takes-numerals}
 use Rattle.atoi_simd.proofs.parse.Needs as need

@@ -1,7 +1,5 @@
 // The types of 8, 16 and 32 bits.
-ghost use mathlib.Core.Path.{_≡_};
-ghost use Prim.Native.Nat.{ℕ};
-ghost use lib.IntN.{ℤ, pos};
+ghost use lib.IntN.{pos};
 ghost use Rattle.atoi_simd.specs.NumberType.{unsigned, signed, itself};
 use super::Number;
 use super::Parse;

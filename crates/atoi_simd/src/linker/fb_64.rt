@@ -1,7 +1,5 @@
 // The types of 64 bits.
-ghost use mathlib.Core.Path.{_≡_};
-ghost use Prim.Native.Nat.{ℕ};
-ghost use lib.IntN.{ℤ, pos};
+ghost use lib.IntN.{pos};
 ghost use Rattle.atoi_simd.specs.NumberType.{unsigned, signed, itself};
 use super::Number;
 use super::Parse;
@@ -17,10 +15,19 @@ use crate::fallback::parse_fb_64_pos;
 use crate::fallback::parse_fb_checked_64_neg;
 use crate::fallback::parse_fb_checked_64_pos;
 
-// How many digits the greatest number has after its first sixteen.
-const LEN_MORE_U64: u32 = 4;
+// What a type of 64 bits adds to its least and greatest value.
+trait Wide {
+    // How many digits the greatest number has after its first sixteen.
+    const LEN_MORE: u32;
+}
 
-const LEN_MORE_I64: u32 = 3;
+impl Wide for u64 as U64Wide {
+    const LEN_MORE: u32 = 4;
+}
+
+impl Wide for i64 as I64Wide {
+    const LEN_MORE: u32 = 3;
+}
 
 pub impl Number for u64 as U64Number {
     ghost means = { unsigned 64 };
@@ -30,14 +37,14 @@ pub impl Number for u64 as U64Number {
 
 pub impl ParsePos for u64 as U64ParsePos {
     fn atoi_simd_parse_pos(s: &[u8], skip_zeroes: bool) -> Result<u64, AtoiSimdError<'_>> {
-        parse_fb_checked_64_pos(s, u64::MAX, LEN_MORE_U64, skip_zeroes)
+        parse_fb_checked_64_pos(s, u64::MAX, u64::LEN_MORE, skip_zeroes)
     }
 
     fn atoi_simd_parse_prefix_pos(
         s: &[u8],
         skip_zeroes: bool,
     ) -> Result<(u64, usize), AtoiSimdError<'_>> {
-        parse_fb_64_pos(s, u64::MAX, LEN_MORE_U64, skip_zeroes)
+        parse_fb_64_pos(s, u64::MAX, u64::LEN_MORE, skip_zeroes)
     }
 }
 
@@ -67,7 +74,7 @@ pub impl Number for i64 as I64Number {
 
 pub impl ParsePos for i64 as I64ParsePos {
     fn atoi_simd_parse_pos(s: &[u8], skip_zeroes: bool) -> Result<i64, AtoiSimdError<'_>> {
-        match parse_fb_checked_64_pos(s, i64::MAX as u64, LEN_MORE_I64, skip_zeroes) {
+        match parse_fb_checked_64_pos(s, i64::MAX as u64, i64::LEN_MORE, skip_zeroes) {
             Ok(v) => Ok(v as i64),
             Err(e) => Err(e),
         }
@@ -77,7 +84,7 @@ pub impl ParsePos for i64 as I64ParsePos {
         s: &[u8],
         skip_zeroes: bool,
     ) -> Result<(i64, usize), AtoiSimdError<'_>> {
-        match parse_fb_64_pos(s, i64::MAX as u64, LEN_MORE_I64, skip_zeroes) {
+        match parse_fb_64_pos(s, i64::MAX as u64, i64::LEN_MORE, skip_zeroes) {
             Ok((v, l)) => Ok((v as i64, l)),
             Err(e) => Err(e),
         }

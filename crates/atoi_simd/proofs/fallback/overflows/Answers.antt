@@ -1,6 +1,6 @@
 use mathlib.Core.Path.{_∙_}
 use borrow.Author.Tests.{lt-ltb, lt-leb}
-use Rattle.atoi_simd.proofs.Wide.{over-above, over-below, over-level}
+use Rattle.atoi_simd.proofs.Wide.{over-above, over-below}
 use Rattle.atoi_simd.proofs.fallback.overflows.Needs as need
 
 pub returns-then-val-max-2 : need.returns-then-val-max-2

@@ -1,6 +1,6 @@
 use mathlib.Core.Path.{_≡_, sym, ap, _∙_}
-use mathlib.Core.Bool.{true, false, cond, _&&_}
-use Prim.Native.Nat.{ℕ, min, _≤_, _<_}
+use mathlib.Core.Bool.{false, cond, _&&_}
+use Prim.Native.Nat.{min, _≤_}
 use native.Mathlib.Omega.{arith}
 use borrow.Author.Needs.{needs}
 use lib.Bits.{bitAnd}
@@ -8,7 +8,7 @@ use lib.Dec.{eqb}
 use lib.ListN.{length}
 use Rattle.std.proofs.shelf.Lists.{take-rest}
 use Rattle.words.specs.Bytes.{bytesLe, front, valueOf}
-use Rattle.atoi_simd.specs.Block.{some, block}
+use Rattle.atoi_simd.specs.Block.{some}
 use Rattle.atoi_simd.specs.Digits.{zeros}
 use Rattle.atoi_simd.proofs.Blocks.{not-asked}
 use Rattle.atoi_simd.proofs.TwoWords.{one-digit, none, few, eight, at-most, digits, part, counted-zeros, whole}

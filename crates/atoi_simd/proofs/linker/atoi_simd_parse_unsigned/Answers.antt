@@ -1,7 +1,5 @@
 use mathlib.Core.Path.{_∙_}
-use mathlib.Core.Bool.{true, false}
 use Prim.Native.Nat.{_<_}
-use native.Mathlib.Omega.{arith}
 use borrow.Author.Needs.{needs}
 use lib.ListN.{length, getD}
 use mathlib.Core.Path.{_≡_}

@@ -1,8 +1,8 @@
-use mathlib.Core.Path.{_≡_, sym, ap, subst, _∙_}
+use mathlib.Core.Path.{_≡_, sym, subst}
 use Prim.Native.Nat.{_+_, _*_, _≤_, _<_}
 use native.Mathlib.Omega.{arith}
 use lib.Bits.{bitAnd}
-use lib.ListN.{length, getD}
+use lib.ListN.{getD}
 use borrow.Author.Tests.{true-ltb, false-ltb}
 use Rattle.words.specs.Bytes.{digitOf}
 use Rattle.atoi_simd.proofs.ByteWise.{Sofar, digit-and, first, more, over, done, none, no-bytes, any-empty}
