@@ -25,7 +25,7 @@ unfolding bytesLe
 one-digit w h = and-mask w 4 ∙ omega arith ∙ digits-value 1 (bytesLe 8 w) h
 
 -- w has the first eight bytes, n of which are digits at the front
-module _ (count : Bool) (bs w : List ℕ) (n : ℕ) (is : w ≡ front 8 bs) (len : n ≡ leading asciiDigit w) where
+module _ (count : Bool) (bs : List ℕ) {w : List ℕ} {n : ℕ} (is : w ≡ front 8 bs) (len : n ≡ leading asciiDigit w) where
   first-run : n ≡ min 8 (run bs)
   first-run = len ∙ front-run 8 w bs is
 
@@ -41,7 +41,7 @@ module _ (count : Bool) (bs w : List ℕ) (n : ℕ) (is : w ≡ front 8 bs) (len
   eight h = let l = leading-le-length asciiDigit bs in (omega (arith, first-run), omega (arith, first-run))
 
   -- x has the next eight bytes, m of which are digits at the front
-  module _ (h : 8 ≤ n) (x : List ℕ) (m : ℕ) (next : x ≡ front 8 (drop 8 bs)) (more : m ≡ leading asciiDigit x) where
+  module _ (h : 8 ≤ n) {x : List ℕ} {m : ℕ} (next : x ≡ front 8 (drop 8 bs)) (more : m ≡ leading asciiDigit x) where
     both : w ++ x ≡ front 16 bs
     both = ap₂ _++_ is next ∙ front-append 8 8 bs (eight h .1)
 

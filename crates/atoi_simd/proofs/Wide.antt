@@ -8,18 +8,19 @@ use native.Mathlib.Omega.{arith}
 use native.Mathlib.Nat.{zero-add, pow-le-pow-right, div-add-mod', mul-le-mul-right, add-mul, mod-lt}
 use lib.Dec.{eqb, leb, ltb}
 use lib.IntN.{pos}
-use lib.ListN.{length, drop}
+use lib.ListN.{length, take, drop}
 use borrow.Author.Tests.{eq-eqb, ne-eqb, le-leb, lt-leb, eqb-true, eqb-false, lt-true, le-false}
 use Rattle.std.specs.Text.{asciiDigit}
-use Rattle.std.proofs.shelf.Lists.{drop-drop}
+use Rattle.std.proofs.shelf.Lists.{drop-drop, take-rest}
 use Rattle.std.proofs.shelf.Sums.{leading-le-length}
 use Rattle.std.proofs.shelf.Tests.{cond-true, cond-false, cases-eq, cases-lt, cases-bool, both-ways}
 use Rattle.words.specs.Bytes.{isZero, valueOf}
 use Rattle.atoi_simd.specs.Answer.{Answer, ok, empty, size, overflow}
+use Rattle.atoi_simd.specs.Block.{fault, some, block}
 use Rattle.atoi_simd.specs.Digits.{run, zeros, value}
 use Rattle.atoi_simd.specs.Calls.{anyLength, digitCount, wideAfter, wide}
 use Rattle.atoi_simd.proofs.Runs.{leading-drop, value-split, value-below, value-zeros, zeros-le}
-use Rattle.atoi_simd.proofs.Blocks.{Read, zeros-counted}
+use Rattle.atoi_simd.proofs.Blocks.{Read, read, unread, zeros-counted}
 use Rattle.atoi_simd.proofs.ByteWise.{any-empty, any-ok}
 use Rattle.atoi_simd.proofs.Counts.{count-above, count-least, count-most}
 use Rattle.atoi_simd.proofs.Skipped.{Skipped, addTo, by-skip, all-left, some-digits, answers, next}
@@ -110,6 +111,17 @@ module _ (val shift more max : ℕ) (small : more < shift) where
   pub over-below : val < max / shift → false ≡ ltb max (val * shift + more)
   over-below h = le-false max (val * shift + more) (below h)
 
+-- ---- what stands behind the first sixteen bytes, as a part of the text
+
+abbrev behind : List ℕ → List ℕ
+behind rest = take (length rest - 16) (drop 16 rest)
+
+pub read-8 : (skip : Bool) (rest : List ℕ) {b : Bool} {v n z : ℕ} → some b v n z ≡ block 8 skip (behind rest) → Read 8 skip (drop 16 rest) b v n z
+read-8 skip rest e = read 8 skip (drop 16 rest) (e ∙ ap (block 8 skip) (take-rest rest 16))
+
+pub unread-8 : (skip : Bool) (rest : List ℕ) {a : Answer} → fault a ≡ block 8 skip (behind rest) → min 8 (run (drop 16 rest)) ≡ 0
+unread-8 skip rest e = unread 8 skip (drop 16 rest) (e ∙ ap (block 8 skip) (take-rest rest 16)) .1
+
 -- ---- the ways on and out of the loop
 
 module _ (max : ℕ) {skip : Bool} {bs rest : List ℕ} {k : ℕ} (s : Skipped (wideBody max skip) skip bs rest k) where
@@ -130,7 +142,7 @@ module _ (max : ℕ) {skip : Bool} {bs rest : List ℕ} {k : ℕ} (s : Skipped (
   module _ (m : 2 ^ 63 - 1 ≤ max) (top : max < 2 ^ 64) where
     -- n digits that are fewer than the greatest number's
     few : {v : ℕ} (n : ℕ) → 0 < n → run rest ≡ n → v ≡ valueOf n rest → n < digitCount max → ok (pos v) (n + k) ≡ wide max skip bs
-    few {v} n some e is h =
+    few {v} n some′ e is h =
         out (ok (pos v) n) (omega arith) (fits-below max skip rest n e h ∙ ap (λ x. ok (pos x) n) (sym is))
 
     pub fewer : {v n z : ℕ} → Read 16 skip rest false v n z → ok (pos v) (n + k) ≡ wide max skip bs

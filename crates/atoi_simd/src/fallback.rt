@@ -2,9 +2,10 @@
 //
 // A text is read in words of eight bytes; see the crate `words` for what is done with one.
 // Where zeros are skipped, a loop leaves out zeros as long as only zeros would fill the words.
+ghost use mathlib.Core.Bool.{cond};
 ghost use mathlib.Core.Path.{_≡_};
 ghost use Prim.Native.Nat.{_+_, _-_, _*_, _^_, _<_, _≤_};
-ghost use lib.Dec.{ltb};
+ghost use lib.Dec.{eqb, ltb};
 ghost use lib.IntN.{ℤ, pos, negℤ, natAbs};
 ghost use lib.ListN.{length, getD};
 ghost use lib.Signed.{_≤ℤ_};
@@ -191,6 +192,19 @@ fn overflows(val: u64, shift: u64, more: u64, max: u64) -> bool
     val >= max / shift && (val > max / shift || more > max % shift)
 }
 
+// How many zeros lead twenty-four bytes, from those of the first sixteen and of the last eight.
+fn zeroes_of_24(zeroes: u32, zeroes_more: u32) -> u32
+    requires { ⌜ «zeroes_more» ≤ 8 ⌝ }
+    ensures value { λ r. ⌜ r ≡ cond (eqb zeroes 16) (16 + «zeroes_more») zeroes ⌝ }
+    ensures least { λ r. ⌜ zeroes ≤ r ⌝ }
+{
+    if zeroes == 16 {
+        16 + zeroes_more
+    } else {
+        zeroes
+    }
+}
+
 // The number of 64 bits at the front, of at most `max`, which has `len_more` digits after its
 // first sixteen.
 pub(crate) fn parse_fb_64_pos(
@@ -224,11 +238,7 @@ pub(crate) fn parse_fb_64_pos(
         };
         if len > len_more {
             if skip_zeroes && zeroes > 0 {
-                let zeroes = if zeroes == 16 {
-                    16 + zeroes_more
-                } else {
-                    zeroes
-                };
+                let zeroes = zeroes_of_24(zeroes, zeroes_more);
                 skipped += zeroes as usize;
                 rest = &rest[zeroes as usize..];
                 continue;
