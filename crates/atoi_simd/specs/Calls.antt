@@ -1,4 +1,5 @@
--- What the six calls answer, for every number type: in the run of digits r (`run`), its leading zeros z (`zeros`), and its value V (`value`).
+-- What the six calls answer, for every number type: in the run of digits r (`run`), its leading zeros z (`zeros`), and the magnitude of its value V
+-- (`value`). `most` is the largest magnitude that V may have, and `zeroes` says whether leading zeros are skipped.
 use mathlib.Core.List.{List, [], _∷_}
 use mathlib.Core.Bool.{Bool, true, false, cond, _&&_}
 use Prim.Native.Nat.{ℕ, min, _+_, _-_, _*_, _/_, _%_, _^_}

@@ -17,7 +17,7 @@ const TAILS: [&[u8]; 14] = [
     b"\x00\x009", b"\xff12345678",
 ];
 
-/// Splitmix64, with the seed written down: the same numbers at each run.
+/// Splitmix64, started at a fixed value: the same numbers at each run.
 pub struct Random(u64);
 
 impl Random {
