@@ -10,4 +10,3 @@ pub mod Negated
 pub mod Sound
 pub mod Signs
 pub mod Numerals
-pub mod Computed

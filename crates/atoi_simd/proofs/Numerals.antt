@@ -5,8 +5,7 @@ use mathlib.Core.Logic.{⊎-elim}
 use mathlib.Core.List.{List, [], _∷_}
 use Prim.Native.Nat.{ℕ, zero, suc, _+_, _-_, _*_, _^_, _≤_, _<_}
 use native.Mathlib.Omega.{arith}
-use native.Mathlib.Nat.{pow-le-pow-right}
-use lib.Dec.{eqb, leb, leb·zero, leb·suc-suc, lit<}
+use lib.Dec.{eqb, leb, leb·zero, leb·suc-suc}
 use lib.IntN.{ℤ, pos, negsuc, negℤ, natAbs}
 use lib.ListN.{length, drop}
 use lib.Signed.{leZ}
@@ -52,12 +51,10 @@ decimal-run (b ∷ bs) e =
     subst₂ Decimal (ap (λ c. c ∷ bs) byte) whole (digit (digitOf b) (omega arith) (decimal-run bs rest))
 
 -- a value of at most max has no more digits after the zeros than max has
-few-digits : (max : ℕ) (bs : List ℕ) → value bs ≤ max → run bs - zeros bs ≤ digitCount max
-few-digits max bs h =
+few-digits : (max : ℕ) (bs : List ℕ) → max < 2 ^ 64 → value bs ≤ max → run bs - zeros bs ≤ digitCount max
+few-digits max bs top h =
     ⊎-elim
-    (λ over.
-    let least : 10 ^ digitCount max ≤ 10 ^ (run bs - zeros bs - 1) = pow-le-pow-right (lit< tt) (omega arith) in
-    absurd (omega (arith, value-above bs (omega arith), count-over max)))
+    (λ over. absurd (omega (arith, value-above bs (omega arith), count-over max (run bs - zeros bs - 1) top (omega arith))))
     (λ le. le)
     (cases-lt (digitCount max) (run bs - zeros bs))
 
@@ -76,13 +73,13 @@ fits-neg (negsuc a) (negsuc m) (suc n) lo hi = absurd (both-ways false refl hi)
 
 -- ---- a text without a sign
 
-module _ (max : ℕ) (bs : List ℕ) where
+module _ (max : ℕ) (top : max < 2 ^ 64) (bs : List ℕ) where
   run-read : 0 < run bs → value bs ≤ max → cond (isWide max) (wide max true bs) (anyLength max bs) ≡ ok (pos (value bs)) (run bs)
   run-read some h =
       cond-both (isWide max) _ _ (λ a. a ≡ ok (pos (value bs)) (run bs))
       (λ e.
       cond-false (eqb (run bs) 0) _ _ (ne-eqb (run bs) 0 (λ z. omega arith))
-      ∙ cond-true (leb (run bs - zeros bs) (digitCount max)) _ _ (le-leb (run bs - zeros bs) (digitCount max) (few-digits max bs h))
+      ∙ cond-true (leb (run bs - zeros bs) (digitCount max)) _ _ (le-leb (run bs - zeros bs) (digitCount max) (few-digits max bs top h))
       ∙ cond-true (leb (value bs) max) _ _ (le-leb (value bs) max h))
       (λ e. any-ok max bs some h)
 
@@ -156,12 +153,12 @@ module _ (t : NumberType) (w : Whole t) where
   -- an accepted numeral is read
   numeral-read : (text : List ℕ) (v : ℤ) → Numeral t text v → fits t v ≡ true → signedCall all t true true text ≡ ok v (length text)
   numeral-read text v (bare {n = n} ds) f =
-      no-sign text n (ds .decimal) (ds .some) ∙ digits-read (limit t false) text n ds (leb-true n (limit t false) (sym (pos-fits n) ∙ f))
+      no-sign text n (ds .decimal) (ds .some) ∙ digits-read (limit t false) (w .few false) text n ds (leb-true n (limit t false) (sym (pos-fits n) ∙ f))
   numeral-read text v (plus {text = rest} {n = n} ds) f =
-      ap afterSign (digits-read (limit t false) rest n ds (leb-true n (limit t false) (sym (pos-fits n) ∙ f))) ∙ ap (ok (pos n)) (omega arith)
+      ap afterSign (digits-read (limit t false) (w .few false) rest n ds (leb-true n (limit t false) (sym (pos-fits n) ∙ f))) ∙ ap (ok (pos n)) (omega arith)
   numeral-read text v (minus {text = rest} {n = n} m ds) f =
       cond-true (takesMinus t && true) _ _ (and-from (takesMinus t) true m refl)
-      ∙ ap (λ a. afterSign (negated a)) (digits-read (limit t true) rest n ds (leb-true n (limit t true) (sym (neg-fits n) ∙ f)))
+      ∙ ap (λ a. afterSign (negated a)) (digits-read (limit t true) (w .few true) rest n ds (leb-true n (limit t true) (sym (neg-fits n) ∙ f)))
       ∙ ap (ok (negℤ (pos n))) (omega arith)
 
   -- and what is read is an accepted numeral

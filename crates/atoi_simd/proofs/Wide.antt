@@ -68,11 +68,11 @@ unfolding wideBody
 wide-is max skip bs h = sym (cond-false (eqb (run bs) 0) _ _ (ne-eqb (run bs) 0 (λ e. omega arith)))
 
 -- n digits fit where the greatest number has more
-fits-below : (max : ℕ) (skip : Bool) (rest : List ℕ) (n : ℕ) → run rest ≡ n → n < digitCount max → wideBody max skip rest ≡ ok (pos (valueOf n rest)) n
+fits-below : (max : ℕ) (skip : Bool) (rest : List ℕ) (n : ℕ) → 2 ^ 63 - 1 ≤ max → run rest ≡ n → n < digitCount max → wideBody max skip rest ≡ ok (pos (valueOf n rest)) n
 unfolding wideBody
-fits-below max skip rest n e h =
+fits-below max skip rest n m e h =
     let b : value rest < 10 ^ n = subst (λ j. valueOf j rest < 10 ^ n) (sym e) (value-below n rest (omega arith)) in
-    let low : value rest ≤ max = omega (arith, count-above max n h) in
+    let low : value rest ≤ max = omega (arith, count-above max n m h) in
     after-ok max (cond skip (zeros rest) 0) rest (omega arith) low ∙ ap₂ (λ x j. ok (pos x) j) (ap (λ j. valueOf j rest) e) e
 
 -- a text of few bytes cannot be too long or too large
@@ -82,9 +82,9 @@ short-is-wide max skip bs m h = ⊎-elim
     (λ e. any-empty max bs e ∙ sym (cond-true (eqb (run bs) 0) _ _ (eq-eqb (run bs) 0 e)))
     (λ e.
     let l = leading-le-length asciiDigit bs in
-    let few : run bs < digitCount max = omega (arith, count-least max m) in
+    let few : run bs < digitCount max = omega (arith, count-least max) in
     let low : value bs < 10 ^ run bs = value-below (run bs) bs (omega arith) in
-    any-ok max bs (omega arith) (omega (arith, count-above max (run bs) few)) ∙ sym (fits-below max skip bs (run bs) refl few) ∙ wide-is max skip bs (omega arith))
+    any-ok max bs (omega arith) (omega (arith, count-above max (run bs) m few)) ∙ sym (fits-below max skip bs (run bs) m refl few) ∙ wide-is max skip bs (omega arith))
     (cases-eq (run bs) 0)
 
 -- ---- the test for an overflow
@@ -139,16 +139,16 @@ module _ (max : ℕ) {skip : Bool} {bs rest : List ℕ} {k : ℕ} (s : Skipped (
   pub no-digits : k ≡ 0 → min 16 (run rest) ≡ 0 → empty ≡ wide max skip bs
   no-digits h e = sym (cond-true (eqb (run bs) 0) _ _ (eq-eqb (run bs) 0 (omega (arith, ap run (all-left s h)))))
 
-  module _ (m : 2 ^ 63 - 1 ≤ max) (top : max < 2 ^ 64) where
+  module _ (m : 2 ^ 63 - 1 ≤ max) where
     -- n digits that are fewer than the greatest number's
     few : {v : ℕ} (n : ℕ) → 0 < n → run rest ≡ n → v ≡ valueOf n rest → n < digitCount max → ok (pos v) (n + k) ≡ wide max skip bs
     few {v} n some′ e is h =
-        out (ok (pos v) n) (omega arith) (fits-below max skip rest n e h ∙ ap (λ x. ok (pos x) n) (sym is))
+        out (ok (pos v) n) (omega arith) (fits-below max skip rest n m e h ∙ ap (λ x. ok (pos x) n) (sym is))
 
     pub fewer : {v n z : ℕ} → Read 16 skip rest false v n z → ok (pos v) (n + k) ≡ wide max skip bs
     fewer {v} {n} r =
         let ne : n ≡ 16 → ⊥ = eqb-false n 16 (sym (r .full)) in
-        few n (r .some′) (omega (arith, r .len)) (r .val) (omega (arith, r .len, count-least max m))
+        few n (r .some′) (omega (arith, r .len)) (r .val) (omega (arith, r .len, count-least max))
 
     module _ {v n z : ℕ} (r : Read 16 skip rest true v n z) where
       full : n ≡ 16
@@ -163,7 +163,7 @@ module _ (max : ℕ) {skip : Bool} {bs rest : List ℕ} {k : ℕ} (s : Skipped (
       pub sixteen : min 8 (run (drop 16 rest)) ≡ 0 → ok (pos v) (16 + k) ≡ wide max skip bs
       sixteen none =
           let d = leading-drop asciiDigit 16 rest (long .0) in
-          few 16 (omega arith) (omega (arith, long .0)) first-value (omega (arith, count-least max m))
+          few 16 (omega arith) (omega (arith, long .0)) first-value (omega (arith, count-least max))
 
       module _ {b : Bool} {w l y : ℕ} (q : Read 8 skip (drop 16 rest) b w l y) where
         rest-run : run (drop 16 rest) ≡ run rest - 16
@@ -215,7 +215,7 @@ module _ (max : ℕ) {skip : Bool} {bs rest : List ℕ} {k : ℕ} (s : Skipped (
         -- all digits are read
         module _ (lm : ℕ) (e : lm + 16 ≡ digitCount max) (h : l ≤ lm) where
           total : run rest ≡ 16 + l
-          total = let a = rest-run in omega (arith, q .len, long .0, count-most max top)
+          total = let a = rest-run in omega (arith, q .len, long .0, count-most max)
 
           joined : v * 10 ^ l + w ≡ value rest
           joined =
@@ -228,7 +228,7 @@ module _ (max : ℕ) {skip : Bool} {bs rest : List ℕ} {k : ℕ} (s : Skipped (
           pub under : l < lm → v * 10 ^ l + w ≤ max
           under g =
               let b′ : value rest < 10 ^ (16 + l) = subst (λ j. valueOf j rest < 10 ^ (16 + l)) (sym total) (value-below (16 + l) rest (omega (arith, total))) in
-              omega (arith, joined, count-above max (16 + l) (omega arith))
+              omega (arith, joined, count-above max (16 + l) m (omega arith))
 
           pub reads : v * 10 ^ l + w ≤ max → ok (pos (v * 10 ^ l + w)) (l + 16 + k) ≡ wide max skip bs
           unfolding wideBody
@@ -245,7 +245,7 @@ module _ (max : ℕ) {skip : Bool} {bs rest : List ℕ} {k : ℕ} (s : Skipped (
               let rz : run (drop 1 rest) ≡ run rest - 1 = leading-drop asciiDigit 1 rest (omega (arith, long .0)) in
               let rn : run (drop 1 rest) ≡ 15 + l = omega (arith, total) in
               let b′ : value (drop 1 rest) < 10 ^ (15 + l) = subst (λ j. valueOf j (drop 1 rest) < 10 ^ (15 + l)) (sym rn) (value-below (15 + l) (drop 1 rest) (omega arith)) in
-              absurd (omega (arith, joined, count-above max (15 + l) (omega arith))))
+              absurd (omega (arith, joined, count-above max (15 + l) m (omega arith))))
               (cases-eq (zeros rest) 0)
 
           pub over : max < v * 10 ^ l + w → overflow rest ≡ wide max skip bs

@@ -6,7 +6,6 @@ use Prim.Native.Nat.{ℕ, min, _+_, _-_, _*_, _/_, _%_, _^_}
 use lib.Dec.{leb, eqb}
 use lib.IntN.{pos, negℤ, natAbs}
 use lib.ListN.{length, drop}
-use Rattle.std.specs.shelf.Digits.{digitsOf}
 use Rattle.words.specs.Bytes.{valueOf}
 use Rattle.atoi_simd.specs.Answer.{Answer, ok, empty, size, overflow, invalid}
 use Rattle.atoi_simd.specs.Digits.{run, zeros, value}
@@ -30,9 +29,9 @@ plain most bs =
 abbrev pub narrow : ℕ → Bool → List ℕ → Answer
 narrow most zeroes bs = cond (eqb (run bs) 0) empty (cond zeroes (skipping most bs) (plain most bs))
 
--- L: how many digits the greatest number has
+-- L: how many digits the greatest number of 64 bits has, 20 for u64 and 19 for i64
 abbrev pub digitCount : ℕ → ℕ
-digitCount most = length (digitsOf 10 most)
+digitCount most = cond (leb (10 ^ 19) most) 20 19
 
 -- 64 bits, with the first z zeros left out of the count of digits
 abbrev pub wideAfter : ℕ → ℕ → List ℕ → Answer

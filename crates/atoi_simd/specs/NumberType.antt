@@ -1,7 +1,7 @@
 -- What a number type means: its least and its greatest value.
 use mathlib.Core.Bool.{Bool, true, false, _&&_}
 use mathlib.Core.Path.{_≡_}
-use Prim.Native.Nat.{ℕ, _-_, _/_, _^_}
+use Prim.Native.Nat.{ℕ, _-_, _/_, _^_, _<_}
 use lib.IntN.{ℤ, pos, negsuc, natAbs}
 use lib.Signed.{leZ, ltZ}
 
@@ -30,10 +30,11 @@ abbrev pub limit : NumberType → Bool → ℕ
 limit t true = natAbs (t .least)
 limit t false = natAbs (t .greatest)
 
--- 0 is a number of the type, so the limits say what fits
+-- 0 is a number of the type, so that the limits say what fits; and no number of it needs more than 64 bits
 pub record Whole (t : NumberType) : Type 0 where
   pub low : leZ (t .least) (pos 0) ≡ true
   pub high : leZ (pos 0) (t .greatest) ≡ true
+  pub few : (negated : Bool) → limit t negated < 2 ^ 64
 
 -- a value of a signed type stands for itself
 abbrev pub itself : ℤ → ℤ

@@ -1,5 +1,4 @@
-use mathlib.Core.Path.{_≡_, sym, ap, _∙_}
-use native.Mathlib.Omega.{arith}
+use mathlib.Core.Path.{_≡_, ap, _∙_}
 use borrow.Author.Needs.{needs}
 use lib.IntN.{pos, negℤ}
 use mir.Syntax.{w64}
@@ -8,11 +7,7 @@ use Rattle.std.proofs.shelf.Signed.{toZ-ofZ}
 use Rattle.atoi_simd.specs.Answer.{ok}
 use Rattle.atoi_simd.specs.Calls.{negated}
 use Rattle.atoi_simd.proofs.Negated.{fault-negated}
-use Rattle.atoi_simd.proofs.Counts.{count-least-i64}
 use Rattle.atoi_simd.proofs.fallback.parse_fb_64_neg.Needs as need
-
-pub parse-fb-64-pos-requires : need.parse-fb-64-pos-requires
-parse-fb-64-pos-requires c κs = record { wide = omega arith; digits = sym count-least-i64 }
 
 pub returns-in-Ok : need.returns-in-Ok
 returns-in-Ok c =

@@ -28,41 +28,41 @@ returns-in-Err c =
 pub returns-in-Ret : need.returns-in-Ret
 returns-in-Ret c =
     let r = read 16 (c .args .skip-zeroes) (c .loop-v .rest .now) (c .in-Ret .ensures tt) in
-    record { value = fewer (c .args .max) (c .loop-v .inv) (c .pre .wide) (omega arith) r; fits = omega (arith, low-16 r, c .pre .wide) }
+    record { value = fewer (c .args .max) (c .loop-v .inv) (c .pre .wide) r; fits = omega (arith, low-16 r, c .pre .wide) }
 
 pub part-parse-8-count : need.part-parse-8-count
 part-parse-8-count c =
     let r = read 16 (c .args .skip-zeroes) (c .loop-v .rest .now) (c .in-Ok .ensures tt) in
-    long (c .args .max) (c .loop-v .inv) (c .pre .wide) (omega arith) r .1
+    long (c .args .max) (c .loop-v .inv) (c .pre .wide) r .1
 
 pub part-parse-8-start : need.part-parse-8-start
 part-parse-8-start c =
     let r = read 16 (c .args .skip-zeroes) (c .loop-v .rest .now) (c .in-Ok .ensures tt) in
-    let h : 16 ≤ length (c .loop-v .rest .now) = long (c .args .max) (c .loop-v .inv) (c .pre .wide) (omega arith) r .1 in search needs
+    let h : 16 ≤ length (c .loop-v .rest .now) = long (c .args .max) (c .loop-v .inv) (c .pre .wide) r .1 in search needs
 
 pub returns-in-Err-parse-8 : need.returns-in-Err-parse-8
 returns-in-Err-parse-8 c =
     let r = read 16 (c .args .skip-zeroes) (c .loop-v .rest .now) (c .in-Ok .ensures tt) in
     let none = unread-8 (c .args .skip-zeroes) (c .loop-v .rest .now) (c .in-Err-parse-8 .ensures tt) in
-    record { value = sixteen (c .args .max) (c .loop-v .inv) (c .pre .wide) (omega arith) r none; fits = omega (arith, low-16 r, c .pre .wide) }
+    record { value = sixteen (c .args .max) (c .loop-v .inv) (c .pre .wide) r none; fits = omega (arith, low-16 r, c .pre .wide) }
 
 pub zeroes-of-24-zeroes-requires : need.zeroes-of-24-zeroes-requires
 zeroes-of-24-zeroes-requires c κs =
     let r = read 16 (c .args .skip-zeroes) (c .loop-v .rest .now) (c .in-Ok .ensures tt) in
     let q = read-8 (c .args .skip-zeroes) (c .loop-v .rest .now) (c .in-Ok-parse-8 .ensures tt) in
-    zeros-most (c .args .max) (c .loop-v .inv) (c .pre .wide) (omega arith) r q
+    zeros-most (c .args .max) (c .loop-v .inv) (c .pre .wide) r q
 
 pub part-rest-count : need.part-rest-count
 part-rest-count c =
     let r = read 16 (c .args .skip-zeroes) (c .loop-v .rest .now) (c .in-Ok .ensures tt) in
     let q = read-8 (c .args .skip-zeroes) (c .loop-v .rest .now) (c .in-Ok-parse-8 .ensures tt) in
-    skips (c .args .max) (c .loop-v .inv) (c .pre .wide) (omega arith) r q (c .zeroes-of-24-zeroes .result) (c .if-skip-zeroes .taken) (c .if-zeroes-gt0 .taken) (c .zeroes-of-24-zeroes .ensures .value) .0
+    skips (c .args .max) (c .loop-v .inv) (c .pre .wide) r q (c .zeroes-of-24-zeroes .result) (c .if-skip-zeroes .taken) (c .if-zeroes-gt0 .taken) (c .zeroes-of-24-zeroes .ensures .value) .0
 
 pub part-rest-start : need.part-rest-start
 part-rest-start c =
     let r = read 16 (c .args .skip-zeroes) (c .loop-v .rest .now) (c .in-Ok .ensures tt) in
     let q = read-8 (c .args .skip-zeroes) (c .loop-v .rest .now) (c .in-Ok-parse-8 .ensures tt) in
-    let h : c .zeroes-of-24-zeroes .result ≤ length (c .loop-v .rest .now) = skips (c .args .max) (c .loop-v .inv) (c .pre .wide) (omega arith) r q (c .zeroes-of-24-zeroes .result) (c .if-skip-zeroes .taken) (c .if-zeroes-gt0 .taken) (c .zeroes-of-24-zeroes .ensures .value) .0 in
+    let h : c .zeroes-of-24-zeroes .result ≤ length (c .loop-v .rest .now) = skips (c .args .max) (c .loop-v .inv) (c .pre .wide) r q (c .zeroes-of-24-zeroes .result) (c .if-skip-zeroes .taken) (c .if-zeroes-gt0 .taken) (c .zeroes-of-24-zeroes .ensures .value) .0 in
     search needs
 
 pub loop-v-again : need.loop-v-again
@@ -70,14 +70,14 @@ loop-v-again c =
     let r = read 16 (c .args .skip-zeroes) (c .loop-v .rest .now) (c .in-Ok .ensures tt) in
     let q = read-8 (c .args .skip-zeroes) (c .loop-v .rest .now) (c .in-Ok-parse-8 .ensures tt) in
     subst (λ l. Skipped (wideBody (c .args .max) (c .args .skip-zeroes)) (c .args .skip-zeroes) (c .args .s .now) l (c .loop-v .skipped + c .zeroes-of-24-zeroes .result)) (sym (take-rest (c .loop-v .rest .now) (c .zeroes-of-24-zeroes .result)))
-    (skips (c .args .max) (c .loop-v .inv) (c .pre .wide) (omega arith) r q (c .zeroes-of-24-zeroes .result) (c .if-skip-zeroes .taken) (c .if-zeroes-gt0 .taken) (c .zeroes-of-24-zeroes .ensures .value) .2)
+    (skips (c .args .max) (c .loop-v .inv) (c .pre .wide) r q (c .zeroes-of-24-zeroes .result) (c .if-skip-zeroes .taken) (c .if-zeroes-gt0 .taken) (c .zeroes-of-24-zeroes .ensures .value) .2)
 
 pub returns-then-len-len-more : need.returns-then-len-len-more
 returns-then-len-len-more c =
     let r = read 16 (c .args .skip-zeroes) (c .loop-v .rest .now) (c .in-Ok .ensures tt) in
     let q = read-8 (c .args .skip-zeroes) (c .loop-v .rest .now) (c .in-Ok-parse-8 .ensures tt) in
     record {
-      value = too-long (c .args .max) (c .loop-v .inv) (c .pre .wide) (omega arith) r q (c .args .len-more) (c .pre .digits) (c .if-len-len-more .taken) (λ t. ⊎-elim (λ h. omega arith) (λ h. absurd (both-ways _ h t)) (c .else-skip-zeroes .either));
+      value = too-long (c .args .max) (c .loop-v .inv) (c .pre .wide) r q (c .args .len-more) (c .pre .digits) (c .if-len-len-more .taken) (λ t. ⊎-elim (λ h. omega arith) (λ h. absurd (both-ways _ h t)) (c .else-skip-zeroes .either));
       fits = tt;
     }
 
@@ -85,20 +85,20 @@ pub pow-shift-requires : need.pow-shift-requires
 pow-shift-requires c κs =
     let r = read 16 (c .args .skip-zeroes) (c .loop-v .rest .now) (c .in-Ok .ensures tt) in
     let q = read-8 (c .args .skip-zeroes) (c .loop-v .rest .now) (c .in-Ok-parse-8 .ensures tt) in
-    let p = power (c .args .max) (c .loop-v .inv) (c .pre .wide) (omega arith) r q in omega arith
+    let p = power (c .args .max) (c .loop-v .inv) (c .pre .wide) r q in omega arith
 
 pub overflows-requires : need.overflows-requires
 overflows-requires c κs =
     let r = read 16 (c .args .skip-zeroes) (c .loop-v .rest .now) (c .in-Ok .ensures tt) in
     let q = read-8 (c .args .skip-zeroes) (c .loop-v .rest .now) (c .in-Ok-parse-8 .ensures tt) in
-    let p = rest-low (c .args .max) (c .loop-v .inv) (c .pre .wide) (omega arith) r q in omega (arith, c .pow-shift .ensures)
+    let p = rest-low (c .args .max) (c .loop-v .inv) (c .pre .wide) r q in omega (arith, c .pow-shift .ensures)
 
 pub returns-then-overflows : need.returns-then-overflows
 returns-then-overflows c =
     let r = read 16 (c .args .skip-zeroes) (c .loop-v .rest .now) (c .in-Ok .ensures tt) in
     let q = read-8 (c .args .skip-zeroes) (c .loop-v .rest .now) (c .in-Ok-parse-8 .ensures tt) in
     let p : c .in-Ok .v * c .pow-shift .result ≡ c .in-Ok .v * 10 ^ c .in-Ok-parse-8 .v .1 = ap (λ x. c .in-Ok .v * x) (c .pow-shift .ensures) in
-    record { value = over (c .args .max) (c .loop-v .inv) (c .pre .wide) (omega arith) r q (c .args .len-more) (c .pre .digits) (c .if-len-len-more .left) (omega (arith, true-ltb _ _ (c .if-overflows .ensures tt))); fits = tt }
+    record { value = over (c .args .max) (c .loop-v .inv) (c .pre .wide) r q (c .args .len-more) (c .pre .digits) (c .if-len-len-more .left) (omega (arith, true-ltb _ _ (c .if-overflows .ensures tt))); fits = tt }
 
 pub mul-result : need.mul-result
 mul-result c =
@@ -107,7 +107,7 @@ mul-result c =
     let p : c .in-Ok .v * c .pow-shift .result ≡ c .in-Ok .v * 10 ^ c .in-Ok-parse-8 .v .1 = ap (λ x. c .in-Ok .v * x) (c .pow-shift .ensures) in
     let fit : c .in-Ok .v * 10 ^ c .in-Ok-parse-8 .v .1 + c .in-Ok-parse-8 .v .0 ≤ c .args .max = elim (c .else-len-len-more-2 .came) [
       | else-len-len-more-2·by·then-len-len-more-2·else-overflows w ↦ omega (arith, false-ltb _ _ (w .if-overflows .ensures tt))
-      | else-len-len-more-2·by·else-len-len-more-2 w ↦ under (c .args .max) (c .loop-v .inv) (c .pre .wide) (omega arith) r q (c .args .len-more) (c .pre .digits) (c .if-len-len-more .left) (omega (arith, w .if-len-len-more-2 .left))
+      | else-len-len-more-2·by·else-len-len-more-2 w ↦ under (c .args .max) (c .loop-v .inv) (c .pre .wide) r q (c .args .len-more) (c .pre .digits) (c .if-len-len-more .left) (omega (arith, w .if-len-len-more-2 .left))
     ] in
     record { fits = omega arith }
 
@@ -118,7 +118,7 @@ add-result-in-loop-v c =
     let p : c .in-Ok .v * c .pow-shift .result ≡ c .in-Ok .v * 10 ^ c .in-Ok-parse-8 .v .1 = ap (λ x. c .in-Ok .v * x) (c .pow-shift .ensures) in
     let fit : c .in-Ok .v * 10 ^ c .in-Ok-parse-8 .v .1 + c .in-Ok-parse-8 .v .0 ≤ c .args .max = elim (c .else-len-len-more-2 .came) [
       | else-len-len-more-2·by·then-len-len-more-2·else-overflows w ↦ omega (arith, false-ltb _ _ (w .if-overflows .ensures tt))
-      | else-len-len-more-2·by·else-len-len-more-2 w ↦ under (c .args .max) (c .loop-v .inv) (c .pre .wide) (omega arith) r q (c .args .len-more) (c .pre .digits) (c .if-len-len-more .left) (omega (arith, w .if-len-len-more-2 .left))
+      | else-len-len-more-2·by·else-len-len-more-2 w ↦ under (c .args .max) (c .loop-v .inv) (c .pre .wide) r q (c .args .len-more) (c .pre .digits) (c .if-len-len-more .left) (omega (arith, w .if-len-len-more-2 .left))
     ] in
     record { fits = omega arith }
 
@@ -129,10 +129,10 @@ returns-in-loop-v c =
     let p : c .in-Ok .v * c .pow-shift .result ≡ c .in-Ok .v * 10 ^ c .in-Ok-parse-8 .v .1 = ap (λ x. c .in-Ok .v * x) (c .pow-shift .ensures) in
     let fit : c .in-Ok .v * 10 ^ c .in-Ok-parse-8 .v .1 + c .in-Ok-parse-8 .v .0 ≤ c .args .max = elim (c .else-len-len-more-2 .came) [
       | else-len-len-more-2·by·then-len-len-more-2·else-overflows w ↦ omega (arith, false-ltb _ _ (w .if-overflows .ensures tt))
-      | else-len-len-more-2·by·else-len-len-more-2 w ↦ under (c .args .max) (c .loop-v .inv) (c .pre .wide) (omega arith) r q (c .args .len-more) (c .pre .digits) (c .if-len-len-more .left) (omega (arith, w .if-len-len-more-2 .left))
+      | else-len-len-more-2·by·else-len-len-more-2 w ↦ under (c .args .max) (c .loop-v .inv) (c .pre .wide) r q (c .args .len-more) (c .pre .digits) (c .if-len-len-more .left) (omega (arith, w .if-len-len-more-2 .left))
     ] in
     record {
       value = ap (λ x. ok (pos (c .in-Ok .v * x + c .in-Ok-parse-8 .v .0)) (c .in-Ok-parse-8 .v .1 + 16 + c .loop-v .skipped)) (c .pow-shift .ensures)
-          ∙ reads (c .args .max) (c .loop-v .inv) (c .pre .wide) (omega arith) r q (c .args .len-more) (c .pre .digits) (c .if-len-len-more .left) fit;
+          ∙ reads (c .args .max) (c .loop-v .inv) (c .pre .wide) r q (c .args .len-more) (c .pre .digits) (c .if-len-len-more .left) fit;
       fits = omega arith;
     }

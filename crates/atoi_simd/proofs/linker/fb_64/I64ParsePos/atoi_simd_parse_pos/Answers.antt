@@ -1,14 +1,10 @@
-use mathlib.Core.Path.{sym, ap, _∙_}
+use mathlib.Core.Path.{ap, _∙_}
 use native.Mathlib.Omega.{arith}
 use lib.ListN.{length}
 use mir.Syntax.{w64}
 use Rattle.std.proofs.shelf.Signed.{toZ-pos}
 use Rattle.atoi_simd.specs.Answer.{ok}
-use Rattle.atoi_simd.proofs.Counts.{count-i64}
 use Rattle.atoi_simd.proofs.linker.fb_64.I64ParsePos.atoi_simd_parse_pos.Needs as need
-
-pub parse-fb-checked-64-pos-requires : need.parse-fb-checked-64-pos-requires
-parse-fb-checked-64-pos-requires c κs = record { wide = omega arith; digits = sym count-i64 }
 
 pub returns-in-Ok : need.returns-in-Ok
 returns-in-Ok c = ap (λ v. ok v (length (c .args .s .now))) (toZ-pos w64 (c .in-Ok .v) (omega (arith, c .in-Ok .ensures tt .fits))) ∙ c .in-Ok .ensures tt .value
