@@ -1,11 +1,11 @@
 -- A number behind its sign.
-use mathlib.Core.Path.{_≡_, refl, sym, ap, ap₂, _∙_}
+use mathlib.Core.Path.{_≡_, refl, sym, ap, ap₂, subst, _∙_}
 use mathlib.Core.Bool.{Bool, true, false, _&&_}
 use mathlib.Core.List.{List, [], _∷_}
 use Prim.Native.Nat.{ℕ, _+_, _-_, _^_, _≤_, _<_}
 use native.Mathlib.Omega.{arith}
 use lib.Dec.{eqb}
-use lib.IntN.{ℤ, pos, negsuc}
+use lib.IntN.{ℤ}
 use lib.ListN.{length, getD, take, drop}
 use borrow.Author.Tests.{eq-eqb, ne-eqb}
 use Rattle.std.specs.declared.result.Result.{Result}
@@ -15,10 +15,10 @@ use Rattle.std.proofs.shelf.Lists.{take-rest, length-drop}
 use Rattle.std.proofs.shelf.Tests.{cond-true, cond-false, and-right}
 use Rattle.atoi_simd.specs.declared.error.AtoiSimdError.{AtoiSimdError}
 use Rattle.atoi_simd.specs.declared.error.AtoiSimdError.the-variants.{Empty, Size, Overflow, Invalid64}
-use Rattle.atoi_simd.specs.Answer.{Answer, ok, empty, size, overflow, invalid, faultOf, checkedBy, prefixBy}
-use Rattle.atoi_simd.specs.Calls.{Extent, front, frontUpTo, unsignedCall, signedCall, negated, afterSign}
-use Rattle.atoi_simd.specs.NumberType.{NumberType, takesMinus, limit}
-use Rattle.atoi_simd.proofs.Sound.{Sound, front-sound}
+use Rattle.atoi_simd.specs.Answer.{Answer, ok, faultOf, checkedBy, prefixBy}
+use Rattle.atoi_simd.specs.Calls.{Extent, front, unsignedCall, signedCall, afterSign}
+use Rattle.atoi_simd.specs.NumberType.{NumberType, takesMinus}
+use Rattle.atoi_simd.proofs.Sound.{Within, unsigned-within}
 
 -- what stands behind the first byte, as a slice pattern binds it
 abbrev pub behind : List ℕ → List ℕ
@@ -55,37 +55,12 @@ checked-after number bs (Ok v) h =
     ap (ok (number v)) (omega arith)
 checked-after number bs (Err e) h = fault-same e
 
--- ---- the count with the sign is a count of bytes that are there
-
-abbrev counted : Answer → ℕ
-counted (ok v n) = n
-counted empty = 0
-counted (size n p) = 0
-counted (overflow p) = 0
-counted (invalid v n p) = 0
-
-sound-counted : (max len : ℕ) (a : Answer) → Sound max len a → counted a ≤ len
-sound-counted max len (ok (pos v) n) s = s .1
-sound-counted max len (ok (negsuc v) n) s = absurd s
-sound-counted max len empty s = omega arith
-sound-counted max len (size n p) s = omega arith
-sound-counted max len (overflow p) s = omega arith
-sound-counted max len (invalid v n p) s = absurd s
-
-negated-counted : (a : Answer) → counted (negated a) ≡ counted a
-negated-counted (ok v n) = refl
-negated-counted empty = refl
-negated-counted (size n p) = refl
-negated-counted (overflow p) = refl
-negated-counted (invalid v n p) = refl
-
-call-counted : (t : NumberType) (neg skip : Bool) (bs : List ℕ) → counted (unsignedCall front t neg skip bs) ≤ length bs
-call-counted t true skip bs = omega (arith, negated-counted (frontUpTo (limit t true) skip bs), sound-counted (limit t true) (length bs) (frontUpTo (limit t true) skip bs) (front-sound (limit t true) bs skip))
-call-counted t false skip bs = sound-counted (limit t false) (length bs) (frontUpTo (limit t false) skip bs) (front-sound (limit t false) bs skip)
-
+-- the count with the sign is a count of bytes that are there
 pub room : {V : Type 0} (number : V → ℤ) (t : NumberType) (neg skip : Bool) (bs : List ℕ) (r : Result (V × ℕ) AtoiSimdError) → 0 < length bs → length bs < 2 ^ 64 →
     prefixBy number r ≡ unsignedCall front t neg skip (behind bs) → made r (λ p. p .1 + 1 < 2 ^ 64)
 room number t neg skip bs (Ok p) h few is =
     let l : length (behind bs) ≡ length bs - 1 = ap length (take-rest bs 1) ∙ length-drop 1 bs in
-    omega (arith, ap counted is, call-counted t neg skip (behind bs))
+    let P : Answer → Type 0 = λ a. Within (length (behind bs)) a in
+    let n : p .1 ≤ length (behind bs) = subst P (sym is) (unsigned-within t neg skip (behind bs)) in
+    omega arith
 room number t neg skip bs (Err e) h few is = tt

@@ -1,8 +1,8 @@
 -- What an answer can be: a value that was read is at most the greatest one, its bytes are there, and no prefix call says that bytes follow.
 use mathlib.Core.Path.{_≡_, subst}
-use mathlib.Core.Bool.{Bool, true, false, cond}
-use mathlib.Core.List.{List}
-use Prim.Native.Nat.{ℕ, min, _-_, _≤_}
+use mathlib.Core.Bool.{Bool, true, false, cond, _&&_}
+use mathlib.Core.List.{List, [], _∷_}
+use Prim.Native.Nat.{ℕ, suc, min, _-_, _≤_}
 use native.Mathlib.Omega.{arith}
 use lib.Dec.{eqb, leb}
 use lib.IntN.{pos, negsuc}
@@ -13,7 +13,8 @@ use Rattle.std.proofs.shelf.Tests.{cond-both, leb-true, leb-false}
 use Rattle.words.specs.Bytes.{valueOf}
 use Rattle.atoi_simd.specs.Answer.{Answer, ok, empty, size, overflow, invalid}
 use Rattle.atoi_simd.specs.Digits.{run, zeros, value}
-use Rattle.atoi_simd.specs.Calls.{narrow, skipping, plain, wide, wideAfter, digitCount, isWide, frontUpTo}
+use Rattle.atoi_simd.specs.Calls.{narrow, skipping, plain, wide, wideAfter, digitCount, isWide, frontUpTo, front, negated, unsignedCall, signedCall, afterSign}
+use Rattle.atoi_simd.specs.NumberType.{NumberType, takesMinus, limit}
 
 -- a natural number of at most max, of at most len bytes
 abbrev pub Sound : ℕ → ℕ → Answer → Type 0
@@ -58,3 +59,48 @@ module _ (max : ℕ) (bs : List ℕ) where
 
   pub front-sound : (skip : Bool) → S (frontUpTo max skip bs)
   front-sound skip = cond-both (isWide max) _ _ S (λ e. wide-is-sound skip) (λ e. narrow-is-sound skip)
+
+-- ---- with a sign
+
+-- an answer that has read no more than there is, and does not say that bytes follow
+abbrev pub Within : ℕ → Answer → Type 0
+Within len (ok v n) = n ≤ len
+Within len empty = Unit {0}
+Within len (size n p) = Unit {0}
+Within len (overflow p) = Unit {0}
+Within len (invalid v n p) = ⊥
+
+sound-within : (max len : ℕ) (a : Answer) → Sound max len a → Within len a
+sound-within max len (ok (pos v) n) s = s .1
+sound-within max len (ok (negsuc v) n) s = absurd s
+sound-within max len empty s = tt
+sound-within max len (size n p) s = tt
+sound-within max len (overflow p) s = tt
+sound-within max len (invalid v n p) s = absurd s
+
+negated-within : (len : ℕ) (a : Answer) → Within len a → Within len (negated a)
+negated-within len (ok v n) s = s
+negated-within len empty s = tt
+negated-within len (size n p) s = tt
+negated-within len (overflow p) s = tt
+negated-within len (invalid v n p) s = s
+
+after-within : (len : ℕ) (a : Answer) → Within len a → Within (suc len) (afterSign a)
+after-within len (ok v n) s = omega arith
+after-within len empty s = tt
+after-within len (size n p) s = tt
+after-within len (overflow p) s = tt
+after-within len (invalid v n p) s = s
+
+pub unsigned-within : (t : NumberType) (neg skip : Bool) (bs : List ℕ) → Within (length bs) (unsignedCall front t neg skip bs)
+unsigned-within t true skip bs = negated-within (length bs) (frontUpTo (limit t true) skip bs) (sound-within (limit t true) (length bs) (frontUpTo (limit t true) skip bs) (front-sound (limit t true) bs skip))
+unsigned-within t false skip bs = sound-within (limit t false) (length bs) (frontUpTo (limit t false) skip bs) (front-sound (limit t false) bs skip)
+
+pub prefix-within : (t : NumberType) (skip plus : Bool) (bs : List ℕ) → Within (length bs) (signedCall front t skip plus bs)
+prefix-within t skip plus [] = tt
+prefix-within t skip plus (b ∷ bs) =
+    cond-both (plus && eqb b 43) _ _ (Within (length (b ∷ bs)))
+    (λ e. after-within (length bs) _ (unsigned-within t false skip bs))
+    (λ e. cond-both (takesMinus t && eqb b 45) _ _ (Within (length (b ∷ bs)))
+    (λ f. after-within (length bs) _ (unsigned-within t true skip bs))
+    (λ f. unsigned-within t false skip (b ∷ bs)))
