@@ -72,7 +72,7 @@ pub impl fmt::Display for Refusal<'_> as RefusalDisplay {
     fn fmt<W: fmt::Write>(&self, f: &mut fmt::Formatter<W>) -> Result<(), fmt::Error> {
         match self {
             Refusal::UnknownWord => write!(f, "the line begins with no word of a section"),
-            Refusal::NoNumber { .. } => write!(f, "a number is missing here"),
+            Refusal::NoNumber { .. } => write!(f, "a number has to stand here"),
             Refusal::TooManyDigits { count, .. } => {
                 write!(
                     f,
@@ -84,7 +84,10 @@ pub impl fmt::Display for Refusal<'_> as RefusalDisplay {
             Refusal::SpaceAfterLast { .. } => {
                 write!(f, "the line has to end here, behind its last number")
             }
-            Refusal::ConditionFails => write!(f, "the numbers do not go together"),
+            Refusal::ConditionFails => write!(
+                f,
+                "the numbers do not meet the condition of their kind"
+            ),
         }
     }
 }
