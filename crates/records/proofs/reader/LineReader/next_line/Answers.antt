@@ -1,8 +1,9 @@
+use borrow.Author.Needs.{needs}
 use mathlib.Core.Path.{_≡_, refl, sym, ap, ap₂, _∙_}
 use mathlib.Core.List.{_∷_}
-use Prim.Native.Nat.{_-_}
+use Prim.Native.Nat.{_-_, _≤_}
 use native.Mathlib.Omega.{arith}
-use lib.ListN.{take, drop}
+use lib.ListN.{length, take, drop}
 use Rattle.std.proofs.shelf.Lists.{drop-all}
 use Rattle.records.specs.Text.{linesOf, lineEnd, nextStart}
 use Rattle.records.proofs.Lines.{line-at}
@@ -24,8 +25,10 @@ returns c =
     }
 
 pub returns-then-start-text : need.returns-then-start-text
-returns-then-start-text c = record {
-  text = refl;
-  line = (c .if-start-text .taken, refl);
-  lines = ap linesOf (drop-all (c .args .self .now .at) (c .args .self .now .text .now) (c .if-start-text .taken));
-}
+returns-then-start-text c =
+    let over : length (c .args .self .now .text .now) ≤ c .args .self .now .at = search needs in
+    record {
+      text = refl;
+      line = (over, refl);
+      lines = ap linesOf (drop-all (c .args .self .now .at) (c .args .self .now .text .now) over);
+    }
