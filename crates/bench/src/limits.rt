@@ -1,4 +1,4 @@
-// Limits: between which temperatures a lever may be pressed.
+// Limits: the lowest and the highest temperature at a lever.
 ghost use mathlib.Core.Path.{_≡_};
 ghost use lib.Signed.{_≤ℤ_, _<ℤ_};
 ghost use Rattle.std.specs.Options.{Cases as BySome};
