@@ -5,6 +5,8 @@
 // and every number type. `parse` and `parse_prefix` take a sign, the other four take none. The
 // checked calls (`parse`, `parse_pos`, `parse_neg`) want all bytes to be digits; the prefix
 // calls stop behind the last digit and say how many bytes they have read.
+#![tactic(auto)]
+
 ghost use Rattle.std.specs.Prelude.{◌≡◌, true, false, length};
 ghost use Rattle.atoi_simd.specs.Answer.{prefix_by, checked_by};
 ghost use Rattle.atoi_simd.specs.Calls.{front, all, unsigned_call, signed_call};

@@ -1,4 +1,6 @@
 // The two kinds of the brake bench: steps, which press a lever, and limits of temperature.
+#![tactic(auto)]
+
 ghost use Rattle.std.specs.Prelude.{◌≡◌};
 ghost use Rattle.records.specs.Line.{read_line};
 ghost use Rattle.records.specs.Meaning.{outcome_by, named_by};

@@ -3,6 +3,8 @@
 //
 // No more of the input is read than one byte past the longest text, which is enough to know that it
 // is too long.
+#![tactic(auto)]
+
 use bench::{LimitRow, StepRow};
 use station::key_sheet;
 use station::output::{BUFFER_LEAST, SLOTS_MOST, TEXT_MOST};

@@ -4,6 +4,8 @@
 // or a plus in front. Any other is printed with its refusal: the number, the place in the line,
 // and the reason. Lines are counted from 1, the empty ones too, but these are not printed. The
 // last line of the output is an account of all.
+#![tactic(auto)]
+
 ghost use Rattle.std.specs.Prelude.{◌≡◌, length, MatchResult};
 ghost use Rattle.records.specs.Text.{lines_of};
 ghost use Rattle.linecheck.specs.Said.{as_step, as_limit, as_refused, as_empty, count};

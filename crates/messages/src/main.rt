@@ -1,4 +1,6 @@
 // Prints the message of each fault of the number parser, as a maker of texts would see it.
+#![tactic(auto)]
+
 use atoi_simd::{AtoiSimdError, parse};
 use std::fmt::Display;
 use std::io;

@@ -3,6 +3,8 @@
 // For each line it prints what the library answers. Where the line has the answer that is expected,
 // it adds whether the two agree. A line that is no question gets `?` and the reason, and an empty
 // one is passed over. The last line of the output is an account of all.
+#![tactic(auto)]
+
 mod account;
 mod answer;
 mod ask;

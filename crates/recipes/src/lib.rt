@@ -4,6 +4,8 @@
 // Each call says what it answers and what every slot holds afterwards, for any slots; and, for
 // every history that brought the recipe there, that the answer is the one that this history
 // defines. `replay` carries the law that sheets identify recipes.
+#![tactic(auto)]
+
 pub mod recipe;
 pub mod refusal;
 pub mod replay;

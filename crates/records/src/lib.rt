@@ -2,6 +2,8 @@
 //
 // A kind is known by its meaning, `specs/Kind.antt`; what stands here is written once for every
 // kind. Every public call says, for every input, which value or which refusal it gives.
+#![tactic(auto)]
+
 pub mod kind;
 pub mod line;
 pub mod number;

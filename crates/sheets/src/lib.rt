@@ -2,6 +2,8 @@
 //
 // What a sheet is and how it is read is said in the crate `model`. Writing and reading are total:
 // every public call says, for every input, what it answers and what the buffer holds then.
+#![tactic(auto)]
+
 mod frame;
 pub mod reader;
 pub mod refusal;

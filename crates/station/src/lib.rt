@@ -3,6 +3,8 @@
 // `key_sheet` turns a text into the two lines of its key sheet, or into the line that says which
 // line of the text is refused. Its contract carries the law that two texts have the same sheet
 // exactly when they mean the same presses.
+#![tactic(auto)]
+
 mod digits;
 pub mod output;
 pub mod sheet;

@@ -2,6 +2,8 @@
 //
 // A test or a sum is made on all eight bytes at once, so that a run of digits costs a few
 // operations and no loop. Every function here is total: it says what it answers for any word.
+#![tactic(auto)]
+
 ghost use Rattle.std.specs.Prelude.{◌≡◌, ◌+◌, ◌≤◌, ◌++◌, length};
 ghost use Rattle.std.specs.Char.{is_ascii_digit};
 ghost use Rattle.std.specs.List.{prefix_len};
