@@ -7,4 +7,4 @@ use Rattle.words.proofs.load_2.Goals as goal
 pub returns : goal.returns
 returns c =
     let s = c.args.s.now in
-    shifted_word 1 s (bytes s c.type-inv.s) (omega arith) (omega arith) ∙ ap word_le (take_all 2 s (omega arith))
+    shifted_word 1 s (bytes s c.type_inv.s) (omega arith) (omega arith) ∙ ap word_le (take_all 2 s (omega arith))

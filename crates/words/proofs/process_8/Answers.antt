@@ -6,7 +6,7 @@ use Rattle.words.proofs.Nibbles.{processed_none, processed_some, processed_all}
 use Rattle.words.proofs.Product.{product}
 use Rattle.words.proofs.Values.{digits_value}
 use Rattle.words.proofs.process_8.Goals as goal
-use Rattle.words.proofs.process_8.Goals.{in-0, in-1-to-8, in-default}
+use Rattle.words.proofs.process_8.Goals.{in-0, in-1-to-8, in_default}
 
 pub returns : goal.returns
 returns c =
@@ -17,7 +17,7 @@ returns c =
     elim c.match-len.branch [
       | in-0 w ↦ ap made w.val-is ∙ processed_none v len w.in-0.is
       | in-1-to-8 w ↦ ap made w.val-is ∙ processed_some v len (omega arith)
-      | in-default w ↦ ap made w.val-is ∙ processed_all v len (omega arith)
+      | in_default w ↦ ap made w.val-is ∙ processed_all v len (omega arith)
     ] in
     record {
       value = is;
