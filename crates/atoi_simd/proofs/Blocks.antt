@@ -1,5 +1,5 @@
 -- How a block of digits is made.
-use Rattle.std.proofs.Common.{◌≡◌, ℕ, ◌-◌, ◌^◌, ◌<◌, ◌≤◌, min, Bool, true, false, cond, ◌&&◌, eqb, List, sym, ap, ◌∙◌, subst, ap₂, ⊎_elim, arith, eq-eqb, ne_eqb}
+use Rattle.std.proofs.Common.{◌≡◌, ℕ, ◌^◌, ◌<◌, ◌≤◌, min, Bool, true, false, cond, ◌&&◌, eqb, List, sym, ap, ◌∙◌, subst, ap₂, ⊎_elim, arith, eq-eqb, ne_eqb}
 use native.Mathlib.Nat.{pow-le-pow_right}
 use Rattle.std.proofs.lemmas.Bool.{cond-true, cond-false, cases_eq}
 use Rattle.atoi_simd.specs.Answer.{Answer, empty}

@@ -1,5 +1,5 @@
 -- The steps of a reader that goes byte by byte.
-use Rattle.std.proofs.Common.{◌≡◌, ℕ, ◌+◌, ◌-◌, ◌*◌, ◌<◌, ◌≤◌, true, false, eqb, leb, List, map, length, get_or, take, drop, pos, sym, ap, ◌∙◌, subst, arith, eq-eqb, ne_eqb, le-leb}
+use Rattle.std.proofs.Common.{◌≡◌, ℕ, ◌+◌, ◌*◌, ◌<◌, ◌≤◌, true, false, eqb, leb, List, map, length, get_or, take, drop, pos, sym, ap, ◌∙◌, subst, arith, eq-eqb, ne_eqb, le-leb}
 use borrow.Author.Tests.{lt-leb}
 use lib.Bits.{bit_and, and_mask}
 use Rattle.std.specs.Char.{is_ascii_digit}

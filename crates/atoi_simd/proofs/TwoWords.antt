@@ -1,5 +1,5 @@
 -- Up to sixteen digits in two words of eight bytes.
-use Rattle.std.proofs.Common.{◌≡◌, ℕ, ◌+◌, ◌-◌, ◌<◌, ◌≤◌, min, Bool, true, false, cond, ◌&&◌, eqb, List, ◌++◌, length, drop, sym, refl, ap, ◌∙◌, ap₂, arith, eq-eqb, ne_eqb}
+use Rattle.std.proofs.Common.{◌≡◌, ℕ, ◌+◌, ◌<◌, ◌≤◌, min, Bool, true, false, cond, ◌&&◌, eqb, List, ◌++◌, length, drop, sym, refl, ap, ◌∙◌, ap₂, arith, eq-eqb, ne_eqb}
 use lib.Bits.{bit_and, and_mask}
 use Rattle.std.specs.Char.{is_ascii_digit}
 use Rattle.std.specs.List.{prefix_len}

@@ -5,8 +5,8 @@ use Rattle.atoi_simd.proofs.parse.Goals as goal
 
 pub returns : goal.returns
 returns g c = record {
-  value = c.atoi-simd-parse.ensures;
+  value = c.atoi_simd_parse.ensures;
   numerals = λ z p.
-      takes_numerals g.T.Number.means g.T.Number.whole g.T.Number.number c.args.s.now c.atoi-simd-parse.result
-      (c.atoi-simd-parse.ensures ∙ ap₂ (λ zeroes plus. signed_call all g.T.Number.means zeroes plus c.args.s.now) z p);
+      takes_numerals g.T.Number.means g.T.Number.whole g.T.Number.number c.args.s.now c.atoi_simd_parse.result
+      (c.atoi_simd_parse.ensures ∙ ap₂ (λ zeroes plus. signed_call all g.T.Number.means zeroes plus c.args.s.now) z p);
 }

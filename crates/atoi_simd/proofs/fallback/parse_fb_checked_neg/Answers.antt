@@ -9,7 +9,7 @@ pub returns-in-Ok : goal.returns-in-Ok
 returns-in-Ok c =
     let fit : SFits w64 c.negative.result = search rules in
     let is : to_z w64 (of_z w64 c.negative.result) ≡ neg_ℤ (pos c.in-Ok.val) = to_z-of_z w64 c.negative.result fit ∙ c.negative.ensures in
-    let most : c.unsigned-abs.result ≡ nat_abs c.args.min = c.unsigned-abs.ensures.value ∙ ap nat_abs (to_z-of_z w64 c.args.min c.ranges.min) in
+    let most : c.unsigned_abs.result ≡ nat_abs c.args.min = c.unsigned_abs.ensures.value ∙ ap nat_abs (to_z-of_z w64 c.args.min c.ranges.min) in
     let same = ap (λ m. negated (to_end c.args.s.now (any_length m c.args.s.now))) most in
     record {
       value = ap (λ v. ok v (length c.args.s.now)) is ∙ ap negated c.in-Ok.ensures.value ∙ same;
@@ -18,6 +18,6 @@ returns-in-Ok c =
 
 pub returns-in-Err : goal.returns-in-Err
 returns-in-Err c =
-    let most : c.unsigned-abs.result ≡ nat_abs c.args.min = c.unsigned-abs.ensures.value ∙ ap nat_abs (to_z-of_z w64 c.args.min c.ranges.min) in
+    let most : c.unsigned_abs.result ≡ nat_abs c.args.min = c.unsigned_abs.ensures.value ∙ ap nat_abs (to_z-of_z w64 c.args.min c.ranges.min) in
     let same = ap (λ m. negated (to_end c.args.s.now (any_length m c.args.s.now))) most in
     record { value = fault_negated _ ∙ ap negated c.in-Err.ensures.value ∙ same; fits = tt }

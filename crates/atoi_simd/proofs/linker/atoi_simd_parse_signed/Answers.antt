@@ -7,12 +7,12 @@ pub returns-in-43 : goal.returns-in-43
 returns-in-43 g c =
     let some : 0 < length c.args.s.now = search rules in
     let sign : get_or c.args.s.now 0 0 ≡ 43 = search rules in
-    checked_after g.T.Number.number c.args.s.now c.atoi-simd-parse-pos.result some
-    ∙ plus_is all g.T.Number.means c.args.skip-zeroes c.args.skip-plus c.args.s.now _ some sign c.if-skip-plus.true c.atoi-simd-parse-pos.ensures
+    checked_after g.T.Number.number c.args.s.now c.atoi_simd_parse_pos.result some
+    ∙ plus_is all g.T.Number.means c.args.skip_zeroes c.args.skip_plus c.args.s.now _ some sign c.if-skip_plus.true c.atoi_simd_parse_pos.ensures
 
 pub returns-in-45 : goal.returns-in-45
 returns-in-45 g c =
     let some : 0 < length c.args.s.now = search rules in
     let sign : get_or c.args.s.now 0 0 ≡ 45 = search rules in
-    checked_after g.T.Number.number c.args.s.now c.atoi-simd-parse-neg.result some
-    ∙ minus_is all g.T.Number.means c.args.skip-zeroes c.args.skip-plus c.args.s.now _ some sign c.requires c.atoi-simd-parse-neg.ensures
+    checked_after g.T.Number.number c.args.s.now c.atoi_simd_parse_neg.result some
+    ∙ minus_is all g.T.Number.means c.args.skip_zeroes c.args.skip_plus c.args.s.now _ some sign c.requires c.atoi_simd_parse_neg.ensures

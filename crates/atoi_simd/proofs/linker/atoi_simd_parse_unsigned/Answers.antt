@@ -7,5 +7,5 @@ pub returns-in-43 : goal.returns-in-43
 returns-in-43 g c =
     let some : 0 < length c.args.s.now = search rules in
     let sign : get_or c.args.s.now 0 0 ≡ 43 = search rules in
-    checked_after g.T.Number.number c.args.s.now c.atoi-simd-parse-pos.result some
-    ∙ plus_is all g.T.Number.means c.args.skip-zeroes c.args.skip-plus c.args.s.now _ some sign c.if-skip-plus.true c.atoi-simd-parse-pos.ensures
+    checked_after g.T.Number.number c.args.s.now c.atoi_simd_parse_pos.result some
+    ∙ plus_is all g.T.Number.means c.args.skip_zeroes c.args.skip_plus c.args.s.now _ some sign c.if-skip_plus.true c.atoi_simd_parse_pos.ensures

@@ -4,7 +4,7 @@ use borrow.Author.Tests.{true-ltb, false-ltb}
 use Rattle.words.specs.Bytes.{digit_of}
 use Rattle.atoi_simd.proofs.ByteWise.{Sofar, digit_and, first, more, over, done, none, no_bytes, any_empty}
 use Rattle.atoi_simd.proofs.short.parse_short_pos.Goals as goal
-use Rattle.atoi_simd.proofs.short.parse_short_pos.Goals.{in-default-via-then-s-i-lt48, in-default-via-else-s-i-lt48+else-this-lt58, in-default-s-via-then-s-i-lt48-2, in-default-s-via-else-s-i-lt48-2+else-this-lt58-2}
+use Rattle.atoi_simd.proofs.short.parse_short_pos.Goals.{in_default-via-then-s-i-lt48, in_default-via-else-s-i-lt48+else-this-lt58, in_default-s-via-then-s-i-lt48-2, in_default-s-via-else-s-i-lt48-2+else-this-lt58-2}
 
 pub returns-then-s-i : goal.returns-then-s-i
 returns-then-s-i c = record { value = sym (any_empty c.args.max c.args.s.now (no_bytes c.args.s.now 0 (omega arith))); fits = tt }
@@ -40,9 +40,9 @@ loop-i-preserved c =
     subst (λ d. Sofar c.args.max c.args.s.now (c.loop-i.i + 1) (c.loop-i.res * 10 + d)) (sym e)
     (more _ _ _ _ c.loop-i.invariant c.loop-i-test.true lo hi (omega arith))
 
-pub returns-in-default-s : goal.returns-in-default-s
-returns-in-default-s c = record {
-  value = done _ _ _ _ c.loop-i.invariant (none _ _ c.loop-i-test.true (λ a b. elim c.in-default-s.branch [ in-default-s-via-then-s-i-lt48-2 w ↦ omega arith | in-default-s-via-else-s-i-lt48-2+else-this-lt58-2 w ↦ omega arith ]));
+pub returns-in_default-s : goal.returns-in_default-s
+returns-in_default-s c = record {
+  value = done _ _ _ _ c.loop-i.invariant (none _ _ c.loop-i-test.true (λ a b. elim c.in_default-s.branch [ in_default-s-via-then-s-i-lt48-2 w ↦ omega arith | in_default-s-via-else-s-i-lt48-2+else-this-lt58-2 w ↦ omega arith ]));
   fits = c.loop-i.invariant.low;
 }
 
@@ -52,9 +52,9 @@ returns-after-loop-i c = record {
   fits = c.loop-i.invariant.low;
 }
 
-pub returns-in-default : goal.returns-in-default
-returns-in-default c = record {
+pub returns-in_default : goal.returns-in_default
+returns-in_default c = record {
   value = sym (any_empty c.args.max c.args.s.now
-      (none c.args.s.now 0 (omega arith) (λ a b. elim c.in-default.branch [ in-default-via-then-s-i-lt48 w ↦ omega arith | in-default-via-else-s-i-lt48+else-this-lt58 w ↦ omega arith ])));
+      (none c.args.s.now 0 (omega arith) (λ a b. elim c.in_default.branch [ in_default-via-then-s-i-lt48 w ↦ omega arith | in_default-via-else-s-i-lt48+else-this-lt58 w ↦ omega arith ])));
   fits = tt;
 }
