@@ -8,7 +8,7 @@ returns g c =
     let bs = c.args.bytes.now in
     let t : FieldType = record { numbers = g.T.Number.means; width = g.T.Field.width } in
     let few : g.T.Field.width ≤ 8 = omega (arith, c.width.ensures.value, c.width.ensures.few) in
-    let first = low_word t.width 8 c.load-8.result bs few c.load-8.ensures in
+    let first = low_word t.width 8 c.load_8.result bs few c.load_8.ensures in
     let wide = c.width.ensures.value in
-    let rest = c.of-bytes-rest.ensures in
+    let rest = c.of_bytes-rest.ensures in
     cc

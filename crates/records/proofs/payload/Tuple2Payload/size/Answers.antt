@@ -9,5 +9,5 @@ returns g c =
     let types : List FieldType = record { numbers = g.T.Number.means; width = g.T.Field.width } ∷ g.R.Numbers.types in
     let wide = c.width.ensures.value in
     let rest = c.size.ensures.value in
-    let value : c.saturating-add.result ≡ min (payload_size types) (2 ^ 64 - 1) = omega arith in
-    record { value = value; exact = size_exact types c.saturating-add.result value }
+    let value : c.saturating_add.result ≡ min (payload_size types) (2 ^ 64 - 1) = omega arith in
+    record { value = value; exact = size_exact types c.saturating_add.result value }

@@ -9,12 +9,12 @@ pub returns : goal.returns
 returns g c =
     let at = c.args.at in
     let w = c.width-width.result in
-    let bits = c.to-code.result in
+    let bits = c.to_code.result in
     let rest = payload g.R.Numbers.types (g.R.Numbers.list c.args.self.now.1) in
-    let from : c.in-ok-checked-add.field-0 ≡ c.args.at + c.width-width.result = omega (arith, c.in-ok-checked-add.ensures) in
+    let from : c.in_ok-checked_add.field-0 ≡ c.args.at + c.width-width.result = omega (arith, c.in_ok-checked_add.ensures) in
     let wide : c.width-width.result ≡ g.T.Field.width = c.width-width.ensures.value in
-    let behind : c.in-ok-behind.behind ≡ c.in-ok-checked-add.field-0 + payload_size g.R.Numbers.types = c.in-ok-behind.ensures.0 in
-    let within : c.in-ok-behind.behind ≤ length c.args.out.now = c.in-ok-behind.ensures.1 in
-    let after = c.in-ok-behind.ensures.2 in
+    let behind : c.in_ok-behind.behind ≡ c.in_ok-checked_add.field-0 + payload_size g.R.Numbers.types = c.in_ok-behind.ensures.0 in
+    let within : c.in_ok-behind.behind ≤ length c.args.out.now = c.in_ok-behind.ensures.1 in
+    let after = c.in_ok-behind.ensures.2 in
     let whole = put_before c.args.out.now at w (bytes_le w bits) rest (length-bytes_le w bits) (omega arith) in
     (omega arith, within, cc)
