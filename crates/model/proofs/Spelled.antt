@@ -9,7 +9,7 @@ use Rattle.std.proofs.lemmas.List.{drop_at, drop-drop, length-append, take_at}
 use Rattle.std.proofs.lemmas.Bool.{and_parts, cases_Bool, cond-false, cond-true, false≢true, le-ltb, ne_eqb, not_from_false, not_from_true}
 use Rattle.records.specs.FieldType.{FieldType, Regular, holds, reads}
 use Rattle.records.specs.Kind.{Kind, IsRecord, Lawful, WordByte, fit_all}
-use Rattle.records.specs.Line.{is_space, past_spaces, placed, stops, stopped, number_at, next, read_numbers, read_behind, word_end_spelled, word_of, Section, first, second, read_in}
+use Rattle.records.specs.Line.{is_space, past_spaces, placed, stops, stopped, number_at, next, read_numbers, read_behind, word_end, word_of, Section, first, second, read_in}
 use Rattle.records.specs.Outcome.{plain, got}
 use Rattle.model.specs.History.{Layout, kind, reading, named}
 use Rattle.model.specs.Law.{Byte}
@@ -69,14 +69,14 @@ numbers_read (t ∷ ts) regs (v ∷ vs) line before at l e h =
 abbrev pub line_of : Kind → List ℤ → List ℕ
 line_of k r = k.word ++ spelled r
 
-word_end_spelled : (w rest : List ℕ) → All WordByte w → stops rest ≡ true → word_end_spelled (w ++ rest) ≡ length w
+word_end_spelled : (w rest : List ℕ) → All WordByte w → stops rest ≡ true → word_end (w ++ rest) ≡ length w
 word_end_spelled [] [] a s = refl
 word_end_spelled [] (b ∷ rest) a s = cond-false (not (is_space b)) _ _ (not_from_true (is_space b) s)
 word_end_spelled (c ∷ w) rest a s =
     cond-true (not (is_space c)) _ _ (not_from_false (is_space c) (ne_eqb c 32 a.0.1)) ∙ ap (λ n. 1 + n) (word_end_spelled w rest a.1 s) ∙ omega arith
 
 module _ (k : Kind) (law : Lawful k) (r : List ℤ) where
-  end_is : word_end_spelled (line_of k r) ≡ length k.word
+  end_is : word_end (line_of k r) ≡ length k.word
   end_is = word_end_spelled k.word (spelled r) law.word_bytes (spelled_stops r)
 
   word_is : word_of (line_of k r) ≡ k.word
@@ -92,11 +92,11 @@ module _ (k : Kind) (law : Lawful k) (r : List ℤ) where
   in_section : (s : Section) → IsRecord k r → read_in s k (line_of k r) ≡ named s r
   in_section s is =
       let line = line_of k r in
-      let one = numbers_read k.types law.types_regular r line k.word (word_end_spelled line) (sym end_is) refl is.fitting in
-      let two : read_behind k line (word_end_spelled line) ≡ got r =
-      then_pass (read_numbers k.types line (word_end_spelled line)) _ r one
+      let one = numbers_read k.types law.types_regular r line k.word (word_end line) (sym end_is) refl is.fitting in
+      let two : read_behind k line (word_end line) ≡ got r =
+      then_pass (read_numbers k.types line (word_end line)) _ r one
       ∙ refuse_pass (not (k.condition r)) (plain 17 0) _ (not_from_true (k.condition r) is.meets) in
-      then_pass (read_behind k line (word_end_spelled line)) _ r two
+      then_pass (read_behind k line (word_end line)) _ r two
 
 pub line_read : (c : Layout) → ((s : Section) → Lawful (kind c s)) → c.kind₁.word ≢ c.kind₂.word → (s : Section) (r : List ℤ)
     → IsRecord (kind c s) r → reading c (line_of (kind c s) r) ≡ named s r

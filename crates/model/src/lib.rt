@@ -4,4 +4,3 @@
 // `Sheet` what a sheet is, `Reading` how one is read, and `Law` that sheets identify recipes. The
 // contracts of the crates above speak in these words, and cite the law that is proved here.
 #![tactic(auto)]
-
