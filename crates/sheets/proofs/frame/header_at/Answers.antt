@@ -6,6 +6,6 @@ use Rattle.sheets.proofs.frame.header_at.Goals as goal
 
 pub returns : goal.returns
 returns c =
-    let is = c.of-bytes-size.ensures ∙ ap (numbers_of (unsigned_of 4 ∷ (unsigned_of 2 ∷ []))) c.tail.ensures in
+    let is = c.of_bytes-size.ensures ∙ ap (numbers_of (unsigned_of 4 ∷ (unsigned_of 2 ∷ []))) c.tail.ensures in
     let h = header_numbers c.args.bytes.now c.args.at _ _ is in
     record { size = h.0; number = h.1 }

@@ -6,7 +6,7 @@ use Rattle.sheets.specs.Handed.{record_in}
 use Rattle.sheets.specs.Refusals.{read_by}
 use Rattle.sheets.proofs.Standing.{in_first, in_second, in_neither, record_checked}
 use Rattle.sheets.proofs.reader.find_record.Goals as goal
-use Rattle.sheets.proofs.reader.find_record.Goals.{in-Some, in-None, in-Some-row-in, in-None-row-in}
+use Rattle.sheets.proofs.reader.find_record.Goals.{in-Some, in-None, in-Some-row_in, in-None-row_in}
 use Rattle.sheets.proofs.reader.find_record.Goals.{else-section-eq1-via-then-section-eq1+else-i-first, else-section-eq1-via-else-section-eq1}
 use Rattle.sheets.proofs.reader.find_record.Goals.{else-section-eq2-via-then-section-eq2+else-i-second, else-section-eq2-via-else-section-eq2}
 
@@ -14,8 +14,8 @@ pub returns-then-i-first : goal.returns-then-i-first
 returns-then-i-first g c =
     let a = g.A.RecordKind in
     let b = g.B.RecordKind in
-    let value : read_by (named_by a.numbers b.numbers) c.match-row-in.result ≡ record_in a.means b.means c.args.bytes.now c.args.first c.args.second c.args.section c.args.i =
-    elim c.match-row-in.branch [
+    let value : read_by (named_by a.numbers b.numbers) c.match-row_in.result ≡ record_in a.means b.means c.args.bytes.now c.args.first c.args.second c.args.section c.args.i =
+    elim c.match-row_in.branch [
       | in-Some w ↦ rw w.result-is
           (in_first a.means b.means c.args.bytes.now c.args.first c.args.second c.args.section c.args.i c.if-section-eq1.true c.if-i-first.true
           (w.in-Some.ensures first))
@@ -30,18 +30,18 @@ returns-then-i-second g c =
     let a = g.A.RecordKind in
     let b = g.B.RecordKind in
     let few : length c.args.bytes.now < 2 ^ 63 = search rules in
-    let size = ap (λ s. c.args.first * s) c.record-size.ensures.value in
-    let mul = c.saturating-mul.ensures in
-    let add = c.saturating-add-from.ensures in
-    let from : c.saturating-add-from.result ≡ min (12 + c.args.first * payload_size g.A.RecordKind.means.types) (2 ^ 64 - 1) = omega arith in
-    let value : read_by (named_by a.numbers b.numbers) c.match-row-in-2.result ≡ record_in a.means b.means c.args.bytes.now c.args.first c.args.second c.args.section c.args.i =
-    elim c.match-row-in-2.branch [
-      | in-Some-row-in w ↦ rw w.result-is
-          (in_second a.means b.means c.args.bytes.now c.args.first c.args.second c.args.section c.args.i c.saturating-add-from.result c.if-section-eq2.true c.if-i-second.true from few
-          (w.in-Some-row-in.ensures second))
-      | in-None-row-in w ↦ rw w.result-is
-          (in_second a.means b.means c.args.bytes.now c.args.first c.args.second c.args.section c.args.i c.saturating-add-from.result c.if-section-eq2.true c.if-i-second.true from few
-          (w.in-None-row-in.ensures second))
+    let size = ap (λ s. c.args.first * s) c.record_size.ensures.value in
+    let mul = c.saturating_mul.ensures in
+    let add = c.saturating_add-from.ensures in
+    let from : c.saturating_add-from.result ≡ min (12 + c.args.first * payload_size g.A.RecordKind.means.types) (2 ^ 64 - 1) = omega arith in
+    let value : read_by (named_by a.numbers b.numbers) c.match-row_in-2.result ≡ record_in a.means b.means c.args.bytes.now c.args.first c.args.second c.args.section c.args.i =
+    elim c.match-row_in-2.branch [
+      | in-Some-row_in w ↦ rw w.result-is
+          (in_second a.means b.means c.args.bytes.now c.args.first c.args.second c.args.section c.args.i c.saturating_add-from.result c.if-section-eq2.true c.if-i-second.true from few
+          (w.in-Some-row_in.ensures second))
+      | in-None-row_in w ↦ rw w.result-is
+          (in_second a.means b.means c.args.bytes.now c.args.first c.args.second c.args.section c.args.i c.saturating_add-from.result c.if-section-eq2.true c.if-i-second.true from few
+          (w.in-None-row_in.ensures second))
     ] in
     record { value = value; checked = record_checked a.means b.means c.args.bytes.now c.args.first c.args.second c.args.section c.args.i _ value }
 

@@ -2,8 +2,8 @@ use Rattle.std.proofs.Common.{◌+◌, ◌*◌, ◌/◌, ◌≤◌, length, subs
 use Rattle.sheets.proofs.Reading.{whole_records}
 use Rattle.sheets.proofs.reader.read_frame.Goals as goal
 
-pub read-records-requires : goal.read-records-requires
-read-records-requires g c =
-    let n = c.header-at-length.result.0 / c.record-size-size.result in
-    subst (λ s. c.args.at + 6 + n * s ≤ length c.args.bytes.now) c.record-size-size.ensures.value
-    (omega (arith, whole_records c.header-at-length.result.0 c.record-size-size.result c.if-length-size-ne0.false))
+pub read_records-requires : goal.read_records-requires
+read_records-requires g c =
+    let n = c.header_at-length.result.0 / c.record_size-size.result in
+    subst (λ s. c.args.at + 6 + n * s ≤ length c.args.bytes.now) c.record_size-size.ensures.value
+    (omega (arith, whole_records c.header_at-length.result.0 c.record_size-size.result c.if-length-size-ne0.false))

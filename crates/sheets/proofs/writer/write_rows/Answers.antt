@@ -9,12 +9,12 @@ use Rattle.sheets.proofs.writer.write_rows.Goals as goal
 pub loop-i-init : goal.loop-i-init
 loop-i-init g c = sym (put_none c.args.out.now c.args.at)
 
-pub overflow-add-at : goal.overflow-add-at
-overflow-add-at g c =
+pub overflow_add-at : goal.overflow_add-at
+overflow_add-at g c =
     omega (
       arith,
-      record_room c.args.at c.loop-i.i c.args.n c.record-size-size.result (payload_size g.K.RecordKind.means.types) (length c.args.out.now)
-          c.record-size-size.ensures.value c.loop-i-test.true c.requires.room,
+      record_room c.args.at c.loop-i.i c.args.n c.record_size-size.result (payload_size g.K.RecordKind.means.types) (length c.args.out.now)
+          c.record_size-size.ensures.value c.loop-i-test.true c.requires.room,
     )
 
 pub loop-i-preserved : goal.loop-i-preserved
@@ -22,12 +22,12 @@ loop-i-preserved g c =
     let k = g.K.RecordKind.means in
     let i = c.loop-i.i in
     let x = c.index-rows-i.result in
-    let size = c.record-size-size.result in
-    let wide = c.record-size-size.ensures.value in
+    let size = c.record_size-size.result in
+    let wide = c.record_size-size.ensures.value in
     let room = record_room c.args.at i c.args.n size (payload_size k.types) (length c.args.out.now) wide c.loop-i-test.true c.requires.room in
     let rows = c.requires.rows in
     let kept = c.loop-i.auto.out in
     row_written k g.K.RecordKind.numbers g.met.K.RecordKind.shape c.args.rows.now c.args.out.now c.args.at i size x
-    c.loop-i.out c.write-payload.new.out (omega arith) (omega arith) c.index-rows-i.is wide c.loop-i.invariant
+    c.loop-i.out c.write_payload.new.out (omega arith) (omega arith) c.index-rows-i.is wide c.loop-i.invariant
     (written_room (payload_size k.types) (payload k.types (g.K.RecordKind.numbers x)) c.loop-i.out (c.args.at + i * size)
-    c.write-payload.result c.write-payload.new.out c.write-payload.ensures (omega arith))
+    c.write_payload.result c.write_payload.new.out c.write_payload.ensures (omega arith))

@@ -11,9 +11,9 @@ returns-then-out-size g c =
     let b = g.B.RecordKind in
     let p = length_first a.means a.numbers g.met.A.RecordKind.shape c.args.m c.min-m.result c.args.first.now c.min-m.ensures in
     let q = length_first b.means b.numbers g.met.B.RecordKind.shape c.args.n c.min-n.result c.args.second.now c.min-n.ensures in
-    let middle = c.frame-size-middle.ensures in
-    let last = c.frame-size.ensures in
-    let size = c.saturating-add-size.ensures in
+    let middle = c.frame_size-middle.ensures in
+    let last = c.frame_size.ensures in
+    let size = c.saturating_add-size.ensures in
     sheet_refused (frame a.means (map a.numbers (take c.args.m c.args.first.now)))
     (frame b.means (map b.numbers (take c.args.n c.args.second.now))) c.args.out.now (omega arith)
 
@@ -25,13 +25,13 @@ returns g c =
     let h = frame b.means (map b.numbers (take c.args.n c.args.second.now)) in
     let p = length_first a.means a.numbers g.met.A.RecordKind.shape c.args.m c.min-m.result c.args.first.now c.min-m.ensures in
     let q = length_first b.means b.numbers g.met.B.RecordKind.shape c.args.n c.min-n.result c.args.second.now c.min-n.ensures in
-    let middle = c.frame-size-middle.ensures in
-    let last = c.frame-size.ensures in
-    let size = c.saturating-add-size.ensures in
+    let middle = c.frame_size-middle.ensures in
+    let last = c.frame_size.ensures in
+    let size = c.saturating_add-size.ensures in
     let few : length c.args.out.now < 2 ^ 63 = search rules in
-    let one : c.write-frame.new.out ≡ put c.args.out.now 0 f =
-    c.write-frame.ensures ∙ ap (put c.args.out.now 0) (frame_all a.means a.numbers c.args.m c.min-m.result c.args.first.now c.min-m.ensures) in
-    let two = c.write-frame-2.ensures
-    ∙ ap (λ o. put o c.frame-size-middle.result (frame b.means (map b.numbers (take c.min-n.result c.args.second.now)))) one
-    ∙ ap (put (put c.args.out.now 0 f) c.frame-size-middle.result) (frame_all b.means b.numbers c.args.n c.min-n.result c.args.second.now c.min-n.ensures) in
-    rw two (sheet_written f h c.args.out.now c.frame-size-middle.result c.saturating-add-size.result (omega arith) (omega arith) c.if-out-size.false)
+    let one : c.write_frame.new.out ≡ put c.args.out.now 0 f =
+    c.write_frame.ensures ∙ ap (put c.args.out.now 0) (frame_all a.means a.numbers c.args.m c.min-m.result c.args.first.now c.min-m.ensures) in
+    let two = c.write_frame-2.ensures
+    ∙ ap (λ o. put o c.frame_size-middle.result (frame b.means (map b.numbers (take c.min-n.result c.args.second.now)))) one
+    ∙ ap (put (put c.args.out.now 0 f) c.frame_size-middle.result) (frame_all b.means b.numbers c.args.n c.min-n.result c.args.second.now c.min-n.ensures) in
+    rw two (sheet_written f h c.args.out.now c.frame_size-middle.result c.saturating_add-size.result (omega arith) (omega arith) c.if-out-size.false)
