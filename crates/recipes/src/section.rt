@@ -28,8 +28,8 @@ impl<'a, R: RecordKind> Section<'a, R> {
     // Makes the row live, and answers how many then are, or `None` where there is no slot for it.
     pub(crate) fn enter(&mut self, row: R) -> Option<usize>
         requires { Within self.old }
-        ensures answer { result ≡ (if turns_away means (numbers row) (seen numbers self.old) then Nothing else Given (entered means (numbers row) (seen numbers self.old)).count) }
-        ensures state { seen numbers self.new ≡ entered means (numbers row) (seen numbers self.old) }
+        ensures answer { result ≡ (if turns_away R.means (R.numbers row) (seen R.numbers self.old) then Nothing else Given (entered R.means (R.numbers row) (seen R.numbers self.old)).count) }
+        ensures state { seen R.numbers self.new ≡ entered R.means (R.numbers row) (seen R.numbers self.old) }
         ensures within { Within self.new }
         ensures over { SameSlots self.new self.old }
     {
@@ -42,8 +42,8 @@ impl<'a, R: RecordKind> Section<'a, R> {
     // Takes the row out, and answers how many then are live, or `None` where it is not.
     pub(crate) fn strike(&mut self, row: R) -> Option<usize>
         requires { Within self.old }
-        ensures answer { result ≡ (if not (is_among means (numbers row) (live (seen numbers self.old))) then Nothing else Given (struck means (numbers row) (seen numbers self.old)).count) }
-        ensures state { seen numbers self.new ≡ struck means (numbers row) (seen numbers self.old) }
+        ensures answer { result ≡ (if not (is_among R.means (R.numbers row) (live (seen R.numbers self.old))) then Nothing else Given (struck R.means (R.numbers row) (seen R.numbers self.old)).count) }
+        ensures state { seen R.numbers self.new ≡ struck R.means (R.numbers row) (seen R.numbers self.old) }
         ensures within { Within self.new }
         ensures over { SameSlots self.new self.old }
     {
@@ -56,7 +56,7 @@ impl<'a, R: RecordKind> Section<'a, R> {
     // Ends all that is live, and answers how many records were.
     pub(crate) fn clear(&mut self) -> usize
         ensures answer { result ≡ self.old.count }
-        ensures state { seen numbers self.new ≡ cleared (seen numbers self.old) }
+        ensures state { seen R.numbers self.new ≡ cleared (seen R.numbers self.old) }
         ensures within { Within self.new }
         ensures over { SameSlots self.new self.old }
     {
@@ -68,7 +68,7 @@ impl<'a, R: RecordKind> Section<'a, R> {
     // How many bytes the section's frame has.
     pub(crate) fn frame_size(&self) -> usize
         requires { Within self.now }
-        ensures { result ≡ length (frame means (live (seen numbers self.now))) }
+        ensures { result ≡ length (frame R.means (live (seen R.numbers self.now))) }
     {
         frame_size::<R>(self.count)
     }

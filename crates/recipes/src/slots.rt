@@ -11,7 +11,7 @@ const MOST: usize = 4096;
 
 // How many rows at the front come before `row`.
 fn place<R: RecordKind>(rows: &[R], row: &R) -> usize
-    ensures { result ≡ place_of means (numbers row.now) (map numbers rows.now) }
+    ensures { result ≡ place_of R.means (R.numbers row.now) (map R.numbers rows.now) }
 {
     for (i, other) in rows.iter().enumerate() {
         if !other.compare(row).is_lt() {
@@ -65,10 +65,10 @@ fn remove_at<R: RecordKind>(rows: &mut [R], n: usize, p: usize)
 // The place of a row among the first `n`, and whether it is one of them.
 fn look_up<R: RecordKind>(rows: &[R], n: usize, row: &R) -> (usize, bool)
     requires { n ≤ length rows.now }
-    ensures at { result.0 ≡ place_of means (numbers row.now) (take n (map numbers rows.now)) }
+    ensures at { result.0 ≡ place_of R.means (R.numbers row.now) (take n (map R.numbers rows.now)) }
     ensures within { result.0 ≤ n }
     ensures under { result.1 ≡ true → result.0 < n }
-    ensures found { result.1 ≡ is_among means (numbers row.now) (take n (map numbers rows.now)) }
+    ensures found { result.1 ≡ is_among R.means (R.numbers row.now) (take n (map R.numbers rows.now)) }
 {
     let p = place(&rows[0..n], row);
     (p, p < n && rows[p].compare(row).is_eq())
@@ -78,9 +78,9 @@ fn look_up<R: RecordKind>(rows: &[R], n: usize, row: &R) -> (usize, bool)
 // where there is no slot for it.
 pub(crate) fn enter_among<R: RecordKind>(rows: &mut [R], n: usize, row: R) -> Option<usize>
     requires { n ≤ usable (length rows.old) }
-    ensures answer { result ≡ cond (turns_away means (numbers row) (record { slots = map numbers rows.old; count = n })) Nothing
-        (Given (entered means (numbers row) (record { slots = map numbers rows.old; count = n })).count) }
-    ensures stored { map numbers rows.new ≡ (entered means (numbers row) (record { slots = map numbers rows.old; count = n })).slots }
+    ensures answer { result ≡ cond (turns_away R.means (R.numbers row) (record { slots = map R.numbers rows.old; count = n })) Nothing
+        (Given (entered R.means (R.numbers row) (record { slots = map R.numbers rows.old; count = n })).count) }
+    ensures stored { map R.numbers rows.new ≡ (entered R.means (R.numbers row) (record { slots = map R.numbers rows.old; count = n })).slots }
 {
     let (p, found) = look_up(rows, n, &row);
     if found {
@@ -97,9 +97,9 @@ pub(crate) fn enter_among<R: RecordKind>(rows: &mut [R], n: usize, row: R) -> Op
 // where it is not one of them.
 pub(crate) fn strike_among<R: RecordKind>(rows: &mut [R], n: usize, row: R) -> Option<usize>
     requires { n ≤ usable (length rows.old) }
-    ensures answer { result ≡ cond (not (is_among means (numbers row) (take n (map numbers rows.old)))) Nothing
-        (Given (struck means (numbers row) (record { slots = map numbers rows.old; count = n })).count) }
-    ensures stored { map numbers rows.new ≡ (struck means (numbers row) (record { slots = map numbers rows.old; count = n })).slots }
+    ensures answer { result ≡ cond (not (is_among R.means (R.numbers row) (take n (map R.numbers rows.old)))) Nothing
+        (Given (struck R.means (R.numbers row) (record { slots = map R.numbers rows.old; count = n })).count) }
+    ensures stored { map R.numbers rows.new ≡ (struck R.means (R.numbers row) (record { slots = map R.numbers rows.old; count = n })).slots }
 {
     let (p, found) = look_up(rows, n, &row);
     if !found {

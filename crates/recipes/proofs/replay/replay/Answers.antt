@@ -15,8 +15,8 @@ pub loop-command-preserved : goal.loop-command-preserved
 loop-command-preserved g c =
     let inv = c.loop-command.invariant in
     let call = c.make.ensures in (
-      call.within-one,
-      call.within-two,
+      call.within_one,
+      call.within_two,
       call.one ∙ inv.2,
       call.two ∙ inv.3,
       made_more _ _ _ _ _ _ _ _ c.loop-command-test.true call.sections inv.4,
@@ -41,7 +41,7 @@ returns g c =
     let reached = reached_from a.numbers b.numbers a.means b.means c.open-one.result c.open-two.result xs ys one.lent one.empty two.lent two.empty h s t end la lb
     (length xs) (length ys) (length-map xs a.numbers) (length-map ys b.numbers) in
     record {
-      sheet = writes_sheet a.means b.means (length xs) (length ys) h (both a.numbers b.numbers s t) reached c.args.out.now (wrote c.write-sections.result) c.write-sections.new.out c.write-sections.ensures;
+      sheet = writes_sheet a.means b.means (length xs) (length ys) h (both a.numbers b.numbers s t) reached c.args.out.now (wrote c.write_sections.result) c.write_sections.new.out c.write_sections.ensures;
       first = first_slots a.numbers b.numbers a.means b.means c.open-one.result c.open-two.result xs ys one.lent one.empty two.lent two.empty h s t end _ (search rules);
       second = second_slots a.numbers b.numbers a.means b.means c.open-one.result c.open-two.result xs ys one.lent one.empty two.lent two.empty h s t end _ (search rules);
       sheets_identify_recipes = sheets_identify_recipes a.means b.means la lb;

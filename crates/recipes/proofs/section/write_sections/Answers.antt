@@ -8,6 +8,6 @@ pub returns : goal.returns
 returns g c =
     let a = g.A.RecordKind in
     let b = g.B.RecordKind in
-    subst (λ bs. Writes bs c.args.out.now (wrote c.write-sheet.result) c.write-sheet.new.out)
+    subst (λ bs. Writes bs c.args.out.now (wrote c.write_sheet.result) c.write_sheet.new.out)
     (ap₂ (λ x y. frame a.means x ++ frame b.means y) (live_rows a.numbers c.args.first.now) (live_rows b.numbers c.args.second.now))
-    c.write-sheet.ensures
+    c.write_sheet.ensures

@@ -10,7 +10,7 @@ pub returns-then-found : goal.returns-then-found
 returns-then-found g c =
     let m = g.R.RecordKind in
     let s : State = record { slots = map m.numbers c.args.rows.now; count = c.args.n } in
-    let e = enter_held m.means (m.numbers c.args.row) s (sym c.look-up-p.ensures.found ∙ c.if-found.true) in
+    let e = enter_held m.means (m.numbers c.args.row) s (sym c.look_up-p.ensures.found ∙ c.if-found.true) in
     record { answer = e.answers; stored = e.stored }
 
 pub returns-then-n-min : goal.returns-then-n-min
@@ -18,7 +18,7 @@ returns-then-n-min g c =
     let m = g.R.RecordKind in
     let s : State = record { slots = map m.numbers c.args.rows.now; count = c.args.n } in
     let long : usable (length (map m.numbers c.args.rows.now)) ≡ c.min.result = ap usable (length-map c.args.rows.now m.numbers) ∙ sym c.min.ensures in
-    let e = enter_full m.means (m.numbers c.args.row) s (sym c.look-up-p.ensures.found ∙ c.if-found.false) (c.if-n-min.true ∙ sym long) in
+    let e = enter_full m.means (m.numbers c.args.row) s (sym c.look_up-p.ensures.found ∙ c.if-found.false) (c.if-n-min.true ∙ sym long) in
     record { answer = e.answers; stored = e.stored }
 
 pub returns : goal.returns
@@ -27,11 +27,11 @@ returns g c =
     let s : State = record { slots = map m.numbers c.args.rows.now; count = c.args.n } in
     let r = m.numbers c.args.row in
     let long : usable (length (map m.numbers c.args.rows.now)) ≡ c.min.result = ap usable (length-map c.args.rows.now m.numbers) ∙ sym c.min.ensures in
-    let e = enter_new m.means r s (sym c.look-up-p.ensures.found ∙ c.if-found.false) (λ h. c.if-n-min.false (h ∙ long)) in
+    let e = enter_new m.means r s (sym c.look_up-p.ensures.found ∙ c.if-found.false) (λ h. c.if-n-min.false (h ∙ long)) in
     record {
       answer = e.answers;
-      stored = ap (map m.numbers) c.insert-at.ensures
-          ∙ entered_numbers m.numbers c.args.rows.now c.args.n c.look-up-p.result.0 c.args.row
-          ∙ ap (λ p. with_entered s.slots c.args.n p r) c.look-up-p.ensures.at
+      stored = ap (map m.numbers) c.insert_at.ensures
+          ∙ entered_numbers m.numbers c.args.rows.now c.args.n c.look_up-p.result.0 c.args.row
+          ∙ ap (λ p. with_entered s.slots c.args.n p r) c.look_up-p.ensures.at
           ∙ e.stored;
     }

@@ -15,7 +15,7 @@ returns-then-p-n g c =
       at = at;
       within = front_within m.numbers m.means r rows c.args.n p c.requires at;
       under = λ _. c.if-p-n.true;
-      found = c.is-eq.ensures ∙ ap is_eq c.compare.ensures
+      found = c.is_eq.ensures ∙ ap is_eq c.compare.ensures
           ∙ among_at m.numbers m.means r rows c.args.n p c.requires at c.index-rows-p.result c.if-p-n.true c.index-rows-p.is;
     }
 

@@ -9,11 +9,11 @@ returns g c =
     let m = g.R.RecordKind in
     let s : State = record { slots = map m.numbers c.args.rows.now; count = c.args.n } in
     let r = m.numbers c.args.row in
-    let e = strike_live m.means r s (sym c.look-up-p.ensures.found ∙ c.if-not-found.false) in
+    let e = strike_live m.means r s (sym c.look_up-p.ensures.found ∙ c.if-not-found.false) in
     record {
       answer = e.answers;
-      stored = ap (map m.numbers) c.remove-at.ensures
-          ∙ struck_numbers m.numbers c.args.rows.now c.args.n c.look-up-p.result.0
-          ∙ ap (λ p. with_struck s.slots c.args.n p) c.look-up-p.ensures.at
+      stored = ap (map m.numbers) c.remove_at.ensures
+          ∙ struck_numbers m.numbers c.args.rows.now c.args.n c.look_up-p.result.0
+          ∙ ap (λ p. with_struck s.slots c.args.n p) c.look_up-p.ensures.at
           ∙ e.stored;
     }

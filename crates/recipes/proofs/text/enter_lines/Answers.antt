@@ -43,44 +43,44 @@ returns-in-Err g c =
     let inv = c.loop-line.invariant in
     let text = c.args.text.now in
     let l : RefusedLine = record { line = c.loop-line.number + 1; refusal = c.in-Err.refusal } in
-    let some : c.in-Some.line.now ≢ [] = λ e. eqb-false (length c.in-Some.line.now) 0 (sym c.is-empty.ensures ∙ c.if-not-is-empty.true) (ap length e) in
+    let some : c.in-Some.line.now ≢ [] = λ e. eqb-false (length c.in-Some.line.now) 0 (sym c.is_empty.ensures ∙ c.if-not-is_empty.true) (ap length e) in
     record {
       lines = progress_refused a.means b.means (lines_of text) c.loop-line.number
           (both a.numbers b.numbers c.args.first.now c.args.second.now)
           (both a.numbers b.numbers c.loop-line.first c.loop-line.second)
-          (both a.numbers b.numbers c.enter-line.new.first c.enter-line.new.second)
-          (lines_of (drop c.loop-line.lines.at text)) (lines_of (drop c.next-line.new.self.at text)) c.in-Some.line.now l
+          (both a.numbers b.numbers c.enter_line.new.first c.enter_line.new.second)
+          (lines_of (drop c.loop-line.lines.at text)) (lines_of (drop c.next_line.new.self.at text)) c.in-Some.line.now l
           (lines_of_text text _ _ _ _ inv.0 c.in-Some.ensures.lines) some refl
-          (sym c.in-Err.ensures.answer) c.enter-line.ensures.sections inv.7;
-      within-one = c.enter-line.ensures.within-one;
-      within-two = c.enter-line.ensures.within-two;
-      one = c.enter-line.ensures.one ∙ inv.5;
-      two = c.enter-line.ensures.two ∙ inv.6;
+          (sym c.in-Err.ensures.answer) c.enter_line.ensures.sections inv.7;
+      within_one = c.enter_line.ensures.within_one;
+      within_two = c.enter_line.ensures.within_two;
+      one = c.enter_line.ensures.one ∙ inv.5;
+      two = c.enter_line.ensures.two ∙ inv.6;
     }
 
-pub loop-line-preserved-in-default-enter-line : goal.loop-line-preserved-in-default-enter-line
-loop-line-preserved-in-default-enter-line g c =
+pub loop-line-preserved-in_default-enter_line : goal.loop-line-preserved-in_default-enter_line
+loop-line-preserved-in_default-enter_line g c =
     let a = g.A.RecordKind in
     let b = g.B.RecordKind in
     let inv = c.loop-line.invariant in
     let text = c.args.text.now in
-    let some : c.in-Some.line.now ≢ [] = λ e. eqb-false (length c.in-Some.line.now) 0 (sym c.is-empty.ensures ∙ c.if-not-is-empty.true) (ap length e) in
+    let some : c.in-Some.line.now ≢ [] = λ e. eqb-false (length c.in-Some.line.now) 0 (sym c.is_empty.ensures ∙ c.if-not-is_empty.true) (ap length e) in
     let far = c.in-Some.ensures.line in
     let long = ap length inv.0 in (
       c.in-Some.ensures.text ∙ inv.0,
       omega (arith, far, long, inv),
       omega (arith, far, long, inv),
-      c.enter-line.ensures.within-one,
-      c.enter-line.ensures.within-two,
-      c.enter-line.ensures.one ∙ inv.5,
-      c.enter-line.ensures.two ∙ inv.6,
+      c.enter_line.ensures.within_one,
+      c.enter_line.ensures.within_two,
+      c.enter_line.ensures.one ∙ inv.5,
+      c.enter_line.ensures.two ∙ inv.6,
       progress_more a.means b.means (lines_of text) c.loop-line.number
           (both a.numbers b.numbers c.args.first.now c.args.second.now)
           (both a.numbers b.numbers c.loop-line.first c.loop-line.second)
-          (both a.numbers b.numbers c.enter-line.new.first c.enter-line.new.second)
-          (lines_of (drop c.loop-line.lines.at text)) (lines_of (drop c.next-line.new.self.at text)) c.in-Some.line.now
+          (both a.numbers b.numbers c.enter_line.new.first c.enter_line.new.second)
+          (lines_of (drop c.loop-line.lines.at text)) (lines_of (drop c.next_line.new.self.at text)) c.in-Some.line.now
           (lines_of_text text _ _ _ _ inv.0 c.in-Some.ensures.lines) some _
-          (sym c.in-default-enter-line.ensures.answer) c.enter-line.ensures.sections inv.7,
+          (sym c.in_default-enter_line.ensures.answer) c.enter_line.ensures.sections inv.7,
     )
 
 pub loop-line-preserved : goal.loop-line-preserved
@@ -89,7 +89,7 @@ loop-line-preserved g c =
     let b = g.B.RecordKind in
     let inv = c.loop-line.invariant in
     let text = c.args.text.now in
-    let none = no_bytes c.in-Some.line.now (eqb-true (length c.in-Some.line.now) 0 (sym c.is-empty.ensures ∙ c.if-not-is-empty.false)) in
+    let none = no_bytes c.in-Some.line.now (eqb-true (length c.in-Some.line.now) 0 (sym c.is_empty.ensures ∙ c.if-not-is_empty.false)) in
     let now' = both a.numbers b.numbers c.loop-line.first c.loop-line.second in
     let far = c.in-Some.ensures.line in
     let long = ap length inv.0 in (
@@ -102,7 +102,7 @@ loop-line-preserved g c =
       inv.6,
       progress_empty a.means b.means (lines_of text) c.loop-line.number
           (both a.numbers b.numbers c.args.first.now c.args.second.now) now' now'
-          (lines_of (drop c.loop-line.lines.at text)) (lines_of (drop c.next-line.new.self.at text)) c.in-Some.line.now
+          (lines_of (drop c.loop-line.lines.at text)) (lines_of (drop c.next_line.new.self.at text)) c.in-Some.line.now
           (lines_of_text text _ _ _ _ inv.0 c.in-Some.ensures.lines) none inv.7,
     )
 
@@ -114,12 +114,12 @@ returns g c =
     let text = c.args.text.now in
     let start = both a.numbers b.numbers c.args.first.now c.args.second.now in
     let end = both a.numbers b.numbers c.loop-line.first c.loop-line.second in
-    let none = none_left text _ _ inv.0 c.in-default.ensures.lines in
+    let none = none_left text _ _ inv.0 c.in_default.ensures.lines in
     record {
       lines = progress_done a.means b.means (lines_of text) c.loop-line.number start end end
           (subst (λ left. Progress a.means b.means (lines_of text) left c.loop-line.number start end) none inv.7);
-      within-one = inv.3;
-      within-two = inv.4;
+      within_one = inv.3;
+      within_two = inv.4;
       one = inv.5;
       two = inv.6;
     }

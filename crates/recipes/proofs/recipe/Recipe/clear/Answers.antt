@@ -6,7 +6,7 @@ pub returns : goal.returns
 returns g c =
     let a = g.A.RecordKind in
     let b = g.B.RecordKind in
-    let call = c.clear-both in
+    let call = c.clear_both in
     let s = both a.numbers b.numbers c.args.self.now.first c.args.self.now.second in
     let t = both a.numbers b.numbers call.new.first call.new.second in
     record {

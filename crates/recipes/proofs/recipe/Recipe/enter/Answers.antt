@@ -6,7 +6,7 @@ pub returns : goal.returns
 returns g c =
     let a = g.A.RecordKind in
     let b = g.B.RecordKind in
-    let call = c.enter-line in
+    let call = c.enter_line in
     let s = both a.numbers b.numbers c.args.self.now.first c.args.self.now.second in
     let t = both a.numbers b.numbers call.new.first call.new.second in
     record {

@@ -7,7 +7,7 @@ pub returns : goal.returns
 returns g c =
     let a = g.A.RecordKind in
     let b = g.B.RecordKind in
-    let call = c.write-sections in
+    let call = c.write_sections in
     let s = both a.numbers b.numbers c.args.self.now.first c.args.self.now.second in
     record {
       sheet = call.ensures;
