@@ -31,8 +31,8 @@ front t c =
             digits = decimal (n / 10);
             few = length-decimal-le 19 (n / 10) (omega arith) (omega arith) (omega arith);
             stands = record {
-              after = w.out-is ∙ w.put-decimal-last.ensures.after;
-              behind = w.last-is ∙ w.put-decimal-last.ensures.behind;
+              after = w.out-is ∙ w.put_decimal-last.ensures.after;
+              behind = w.last-is ∙ w.put_decimal-last.ensures.behind;
             };
             whole = sym (decimal_step n w.if-n-lt10.false fits);
           }
@@ -41,8 +41,8 @@ front t c =
 pub bounds-out-last : goal.bounds-out-last
 bounds-out-last t c = let f = front t c in omega (arith, f.few, f.stands.behind)
 
-pub overflow-add-result : goal.overflow-add-result
-overflow-add-result t c = let f = front t (goal.at.overflow-add-result t c).Joined-n-lt10 in omega (arith, f.few, f.stands.behind)
+pub overflow_add-result : goal.overflow_add-result
+overflow_add-result t c = let f = front t (goal.at.overflow_add-result t c).Joined-n-lt10 in omega (arith, f.few, f.stands.behind)
 
 pub returns : goal.returns
 returns t c =

@@ -9,4 +9,4 @@ returns c =
     let n = length c.args.text.now in
     let k : at + n - at ≡ n = omega arith in
     let rest : drop (at + n - at) (drop at xs) ≡ drop (at + n) xs = ap (λ m. drop m (drop at xs)) k ∙ drop-drop n at xs in
-    record { after = ap₂ (λ ys zs. take at xs ++ (ys ++ zs)) c.copy-from-slice.ensures.after rest; behind = refl }
+    record { after = ap₂ (λ ys zs. take at xs ++ (ys ++ zs)) c.copy_from_slice.ensures.after rest; behind = refl }

@@ -51,5 +51,5 @@ loop-i-preserved c =
     let place : to + 2 * i ≡ to + 2 * (i - 1) + 2 = omega arith in
     let inv : ys ≡ put xs (to + 2 * (i - 1) + 2) (hex_of (drop (i - 1 + 1) (take len (drop from xs)))) =
     c.loop-i.invariant ∙ ap₂ (λ p k. put xs p (hex_of (drop k (take len (drop from xs))))) place next in
-    ap₂ (λ p q. set (set ys (to + 2 * (i - 1)) p) (to + 2 * (i - 1) + 1) q) c.hex-digit.ensures c.hex-digit-in-loop-i.ensures
+    ap₂ (λ p q. set (set ys (to + 2 * (i - 1)) p) (to + 2 * (i - 1) + 1) q) c.hex_digit.ensures c.hex_digit-in-loop-i.ensures
     ∙ turn xs from len to (i - 1) c.requires.room c.requires.behind (omega arith) ys inv (omega arith)

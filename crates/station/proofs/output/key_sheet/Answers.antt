@@ -5,9 +5,9 @@ use Rattle.station.proofs.Given.{gives_within, used_numbers, rest_numbers}
 use Rattle.station.proofs.Identified.{outputs_identify_recipes}
 use Rattle.station.proofs.output.key_sheet.Goals as goal
 
-pub returns-then-out-lt-BUFFER-LEAST : goal.returns-then-out-lt-BUFFER-LEAST
-returns-then-out-lt-BUFFER-LEAST c = record {
-  output = record { short = λ h. (refl, refl, refl, refl); done = λ h. absurd (omega (arith, h, c.if-out-lt-BUFFER-LEAST.true)) };
+pub returns-then-out-lt-BUFFER_LEAST : goal.returns-then-out-lt-BUFFER_LEAST
+returns-then-out-lt-BUFFER_LEAST c = record {
+  output = record { short = λ h. (refl, refl, refl, refl); done = λ h. absurd (omega (arith, h, c.if-out-lt-BUFFER_LEAST.true)) };
   within = tt;
   outputs_identify_recipes = outputs_identify_recipes;
 }
@@ -16,12 +16,12 @@ pub returns : goal.returns
 returns c =
     let steps = c.args.steps.now in
     let limits = c.args.limits.now in
-    let call = c.put-output in
+    let call = c.put_output in
     let m = c.min-m.ensures in
     let n = c.min-n.ensures in
     record {
       output = record {
-        short = λ h. absurd (omega (arith, h, c.if-out-lt-BUFFER-LEAST.false));
+        short = λ h. absurd (omega (arith, h, c.if-out-lt-BUFFER_LEAST.false));
         done = λ h. (
           call.result,
           map step_numbers call.new.steps,

@@ -12,38 +12,38 @@ use Rattle.station.proofs.output.put_output.Goals as goal
 few_numbers : {X : Type 0} (f : X → List ℤ) (xs : List X) (n : ℕ) → length xs ≤ n → length (map f xs) ≤ n
 few_numbers f xs n h = subst (λ k. k ≤ n) (sym (length-map xs f)) h
 
-pub returns-then-text-gt-TEXT-MOST : goal.returns-then-text-gt-TEXT-MOST
-returns-then-text-gt-TEXT-MOST c =
-    gives_too_long c.args.text.now (map step_numbers c.args.steps.now) (map limit_numbers c.args.limits.now) c.args.out.now c.put-refusal.result c.put-refusal.new.out
-    c.if-text-gt-TEXT-MOST.true c.put-refusal.ensures.len c.put-refusal.ensures.after
+pub returns-then-text-gt-TEXT_MOST : goal.returns-then-text-gt-TEXT_MOST
+returns-then-text-gt-TEXT_MOST c =
+    gives_too_long c.args.text.now (map step_numbers c.args.steps.now) (map limit_numbers c.args.limits.now) c.args.out.now c.put_refusal.result c.put_refusal.new.out
+    c.if-text-gt-TEXT_MOST.true c.put_refusal.ensures.len c.put_refusal.ensures.after
 
-pub put-sheet-requires : goal.put-sheet-requires
-put-sheet-requires c =
+pub put_sheet-requires : goal.put_sheet-requires
+put_sheet-requires c =
     let steps = map step_numbers c.args.steps.now in
     let limits = map limit_numbers c.args.limits.now in
-    let fit = lines_fit c.args.text.now steps limits c.args.out.now c.if-text-gt-TEXT-MOST.false _ _ _ _ c.in-Ok.ensures
+    let fit = lines_fit c.args.text.now steps limits c.args.out.now c.if-text-gt-TEXT_MOST.false _ _ _ _ c.in-Ok.ensures
     (few_numbers step_numbers c.args.steps.now 1024 c.requires.steps) (few_numbers limit_numbers c.args.limits.now 1024 c.requires.limits) c.requires.out
     c.in-Ok.frames.first c.in-Ok.frames.second refl in
-    omega (arith, fit, c.enter-text.auto.out)
+    omega (arith, fit, c.enter_text.auto.out)
 
 pub unreachable-requires : goal.unreachable-requires
 unreachable-requires c =
-    never_short c.args.text.now (map step_numbers c.args.steps.now) (map limit_numbers c.args.limits.now) c.args.out.now c.if-text-gt-TEXT-MOST.false _ _ _ _ c.in-Err.ensures
+    never_short c.args.text.now (map step_numbers c.args.steps.now) (map limit_numbers c.args.limits.now) c.args.out.now c.if-text-gt-TEXT_MOST.false _ _ _ _ c.in-Err.ensures
     (few_numbers step_numbers c.args.steps.now 1024 c.requires.steps) (few_numbers limit_numbers c.args.limits.now 1024 c.requires.limits) c.requires.out
     (ap (λ e. ending_of (Err e)) c.in-TooShort.is)
 
 pub returns-in-Ok : goal.returns-in-Ok
 returns-in-Ok c =
-    gives_sheet c.args.text.now (map step_numbers c.args.steps.now) (map limit_numbers c.args.limits.now) c.args.out.now c.if-text-gt-TEXT-MOST.false _ _ _ _ c.in-Ok.ensures
+    gives_sheet c.args.text.now (map step_numbers c.args.steps.now) (map limit_numbers c.args.limits.now) c.args.out.now c.if-text-gt-TEXT_MOST.false _ _ _ _ c.in-Ok.ensures
     (few_numbers step_numbers c.args.steps.now 1024 c.requires.steps) (few_numbers limit_numbers c.args.limits.now 1024 c.requires.limits) c.requires.out
-    c.in-Ok.frames.first c.in-Ok.frames.second refl c.put-sheet.result c.put-sheet.new.out c.put-sheet.ensures.len c.put-sheet.ensures.after
+    c.in-Ok.frames.first c.in-Ok.frames.second refl c.put_sheet.result c.put_sheet.new.out c.put_sheet.ensures.len c.put_sheet.ensures.after
 
 pub returns-in-Line : goal.returns-in-Line
 returns-in-Line c =
     let l = c.in-Line.l in
-    let call = c.put-refusal-in-Line in
+    let call = c.put_refusal-in-Line in
     let same : refusal_line l.line c.number.result c.place.result ≡ refusal_line l.line (refused_of l.refusal).number (refused_of l.refusal).place =
     ap₂ (refusal_line l.line) c.number.ensures c.place.ensures in
-    gives_refused c.args.text.now (map step_numbers c.args.steps.now) (map limit_numbers c.args.limits.now) c.args.out.now c.if-text-gt-TEXT-MOST.false _ _ _ _ c.in-Err.ensures
+    gives_refused c.args.text.now (map step_numbers c.args.steps.now) (map limit_numbers c.args.limits.now) c.args.out.now c.if-text-gt-TEXT_MOST.false _ _ _ _ c.in-Err.ensures
     l.line (refused_of l.refusal) call.result call.new.out (ap (λ e. ending_of (Err e)) c.in-Line.is) (call.ensures.len ∙ ap length same)
-    (call.ensures.after ∙ ap (put c.enter-text.new.out 0) same)
+    (call.ensures.after ∙ ap (put c.enter_text.new.out 0) same)
