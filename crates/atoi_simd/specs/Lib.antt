@@ -5,3 +5,4 @@ pub mod Calls
 pub mod Numeral
 pub mod Worked
 pub mod Block
+pub mod WholeTypes

@@ -5,7 +5,7 @@ ghost use Rattle.bench.specs.Rows.{limit_numbers};
 ghost use Rattle.bench.specs.Lawful.{limit_lawful};
 ghost use Rattle.std.proofs.Common.{rules};
 
-use records::kind::{LineKind, RecordKind};
+use records::kind::{LineKind, RecordKind, SheetKind};
 use records::number::{Field, Numbers};
 use std::cmp::Ordering;
 
@@ -30,8 +30,6 @@ impl RecordKind for LimitRow {
 
     ghost types = { Prim.search rules };
 
-    ghost shape = { Prim.search rules };
-
     fn of_run(run: (u8, (i16, (i16, ())))) -> LimitRow {
         let (lever, (low, (high, ()))) = run;
         LimitRow { lever, low, high }
@@ -53,13 +51,17 @@ impl RecordKind for LimitRow {
 }
 
 impl LineKind for LimitRow {
+    fn word() -> &'static [u8] {
+        b"limit"
+    }
+}
+
+impl SheetKind for LimitRow {
     fn number() -> u16 {
         2
     }
 
-    fn word() -> &'static [u8] {
-        b"limit"
-    }
+    ghost shape = { Prim.search rules };
 }
 
 // A limit: its low temperature is at most its high one.

@@ -4,7 +4,7 @@ ghost use Rattle.bench.specs.Rows.{step_numbers};
 ghost use Rattle.bench.specs.Lawful.{step_lawful};
 ghost use Rattle.std.proofs.Common.{rules};
 
-use records::kind::{LineKind, RecordKind};
+use records::kind::{LineKind, RecordKind, SheetKind};
 use records::number::{Field, Numbers};
 use std::cmp::Ordering;
 
@@ -29,8 +29,6 @@ impl RecordKind for StepRow {
     ghost lawful = { step_lawful };
 
     ghost types = { Prim.search rules };
-
-    ghost shape = { Prim.search rules };
 
     fn of_run(run: (u64, (u8, (u16, (u32, ()))))) -> StepRow {
         let (start, (lever, (force, (hold, ())))) = run;
@@ -58,11 +56,15 @@ impl RecordKind for StepRow {
 }
 
 impl LineKind for StepRow {
+    fn word() -> &'static [u8] {
+        b"step"
+    }
+}
+
+impl SheetKind for StepRow {
     fn number() -> u16 {
         1
     }
 
-    fn word() -> &'static [u8] {
-        b"step"
-    }
+    ghost shape = { Prim.search rules };
 }

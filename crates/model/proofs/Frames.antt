@@ -1,7 +1,7 @@
 -- Frames at a place of a sheet: a frame that was written is read back, and one that is read was written.
 use Rattle.std.proofs.Common.{◌≡◌, ℕ, ◌+◌, ◌-◌, ◌*◌, ◌/◌, ◌%◌, ◌^◌, ◌<◌, ◌≤◌, true, not, ◌||◌, eqb, ltb, List, [], ◌∷◌, ◌++◌, length, take, drop, ℤ, None, sym, refl, ap, ◌∙◌, ap₂, append_assoc, mul-le-mul_left, div-add-mod', mul-div_cancel, arith}
 use native.Mathlib.Nat.{mul-mod_left}
-use Rattle.std.specs.List.{AllByRecursion as All}
+use Rattle.std.specs.List.{AllByRecursion}
 use Rattle.std.proofs.ByRecursion.{All-drop}
 use Rattle.std.proofs.lemmas.List.{drop_at, drop-drop, length-append, length-drop, take-append-drop}
 use Rattle.std.proofs.lemmas.Bool.{eq-eqb, eqb-true, le-ltb, ltb-false, not-false, not_from_true, or_from, or_parts}
@@ -22,11 +22,11 @@ use Rattle.model.proofs.Payloads.{Run, bytes_word, chain_rising, length-payloads
 
 -- what a frame may hold
 pub record Content (k : Kind) (xs : List (List ℤ)) : Type 0 where
-  pub records : All (IsRecord k) xs
+  pub records : AllByRecursion (IsRecord k) xs
   pub rising : Rising k xs
   pub few : length xs ≤ 4096
 
-size_least : (ts : List FieldType) → All Regular ts → length ts ≤ payload_size ts
+size_least : (ts : List FieldType) → AllByRecursion Regular ts → length ts ≤ payload_size ts
 size_least [] regs = omega arith
 size_least (t ∷ ts) regs = let some = regs.0.some in omega (arith, size_least ts regs.1)
 
@@ -88,11 +88,11 @@ module _ (k : Kind) (law : Lawful k) where
         ∙ ap (λ n. read_records k bytes n (at + 6) None) quo
         ∙ records_read k bytes rest xs (at + 6) None law.types_regular run.records run.rising (all_after xs) from_6
       where
-        all_after : (ys : List (List ℤ)) → All (λ y. after k None y ≡ true) ys
+        all_after : (ys : List (List ℤ)) → AllByRecursion (λ y. after k None y ≡ true) ys
         all_after [] = tt
         all_after (y ∷ ys) = (refl, all_after ys)
 
-  pub frame_sound : (bytes : List ℕ) (at : ℕ) (xs : List (List ℤ)) → All Byte bytes → read_frame k bytes at ≡ got xs
+  pub frame_sound : (bytes : List ℕ) (at : ℕ) (xs : List (List ℤ)) → AllByRecursion Byte bytes → read_frame k bytes at ≡ got xs
       → Content k xs × (drop at bytes ≡ frame k xs ++ drop (behind bytes at) bytes)
   frame_sound bytes at xs all e =
       let w = payload_size k.types in

@@ -1,6 +1,6 @@
 -- Sheets identify recipes.
 use Rattle.std.proofs.Common.{◌≡◌, ℕ, ◌≢◌, List, [], ℤ, subst, arith}
-use Rattle.std.specs.List.{AllByRecursion as All}
+use Rattle.std.specs.List.{AllByRecursion}
 use Rattle.records.specs.Kind.{Kind, Lawful}
 use Rattle.records.specs.Line.{first, second}
 use Rattle.records.specs.Outcome.{got}
@@ -17,7 +17,7 @@ use Rattle.model.proofs.Sheets.{one_sheet, same_sheets, sheet_reads, sheet_sound
 module _ (a b : Kind) (la : Lawful a) (lb : Lawful b) where
   module _ (apart : a.word ≢ b.word) where
     -- the history that enters what was read
-    read_some : (bs : List ℕ) (z : Both) → All Byte bs → read_sheet a b bs ≡ got z → SomeSheet a b bs
+    read_some : (bs : List ℕ) (z : Both) → AllByRecursion Byte bs → read_sheet a b bs ≡ got z → SomeSheet a b bs
     read_some bs z all e =
         let s = sheet_sound a b la lb bs z all e in
         let c = over a b 4096 4096 in

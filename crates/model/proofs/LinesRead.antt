@@ -1,6 +1,6 @@
 -- What a line reads as is a record of its section's kind.
 use Rattle.std.proofs.Common.{◌≡◌, ℕ, Bool, true, false, cond, not, ltb, List, [], ◌∷◌, length, drop, ℤ, sym, refl, ap, ◌∙◌, subst}
-use Rattle.std.specs.List.{AllByRecursion as All}
+use Rattle.std.specs.List.{AllByRecursion}
 use Rattle.std.specs.Str.{bytes_eq}
 use Rattle.std.proofs.lemmas.Bool.{and_from, not-false}
 use Rattle.atoi_simd.specs.Answer.{Answer, ok, empty, size, overflow, invalid}
@@ -28,7 +28,7 @@ next_fits t reg line at n e =
     subst (λ m. holds t m.value ≡ true) (got_same (got a.0) a.0 n refl b.1)
     (read_fits t.numbers reg.whole (drop from line) a.0.value c.0 c.1)
 
-numbers_fit : (ts : List FieldType) → All Regular ts → (line : List ℕ) (at : ℕ) (vs : List ℤ) → read_numbers ts line at ≡ got vs → fit_all ts vs ≡ true
+numbers_fit : (ts : List FieldType) → AllByRecursion Regular ts → (line : List ℕ) (at : ℕ) (vs : List ℤ) → read_numbers ts line at ≡ got vs → fit_all ts vs ≡ true
 numbers_fit [] regs line at vs e =
     let a = refuse_got (ltb at (length line)) (plain 16 at) (got []) vs e in
     ap (fit_all []) (got_same (got []) vs [] a.1 refl)

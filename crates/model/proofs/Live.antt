@@ -1,7 +1,7 @@
 -- What is live: records, of which there is one rising list, and what an accepted call changes.
 use Rattle.std.proofs.Common.{◌≡◌, ℕ, ◌≢◌, ◌⊎◌, ◌↔◌, List, [], ◌∷◌, refl, ap, ◌∙◌, inl, inr, ⊎_elim, arith}
 use mathlib.Core.Logic.Iff
-use Rattle.std.specs.List.{AllByRecursion as All}
+use Rattle.std.specs.List.{AllByRecursion}
 use Rattle.records.specs.Kind.{Kind, IsRecord, Lawful}
 use Rattle.records.specs.Line.{Section, first, second, InSection}
 use Rattle.records.specs.Outcome.{Outcome}
@@ -31,7 +31,7 @@ laws_over a b la lb m n second = lb
 pub listed_by : (k : Kind) (P Q : Row → Type 0) (xs : List Row) → ((r : Row) → P r ↔ Q r) → Listed k P xs → Listed k Q xs
 listed_by k P Q xs f l = record { rising = l.rising; just = λ r. Iff.trans (l.just r) (f r) }
 
-pub listed_records : (k : Kind) (P : Row → Type 0) (xs : List Row) → ((r : Row) → P r → IsRecord k r) → Listed k P xs → All (IsRecord k) xs
+pub listed_records : (k : Kind) (P : Row → Type 0) (xs : List Row) → ((r : Row) → P r → IsRecord k r) → Listed k P xs → AllByRecursion (IsRecord k) xs
 listed_records k P xs f l = all_holds (IsRecord k) xs (λ r h. f r ((l.just r).0 h))
 
 pub listed_unique : (k : Kind) → Lawful k → (P : Row → Type 0) → ((r : Row) → P r → IsRecord k r) → (xs ys : List Row) → Listed k P xs → Listed k P ys

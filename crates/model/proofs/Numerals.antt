@@ -3,7 +3,7 @@ use Rattle.std.proofs.Common.{◌≡◌, ℕ, suc, ◌+◌, ◌-◌, ◌/◌, �
 use Rattle.std.specs.Char.{is_ascii_digit}
 use Rattle.std.specs.Fmt.{signed_decimal}
 use Rattle.std.specs.Int.Digits.{number_from_digits}
-use Rattle.std.specs.List.{AllByRecursion as All}
+use Rattle.std.specs.List.{AllByRecursion}
 use Rattle.std.proofs.lemmas.Fmt.{decimal_by_steps, decimal_nonempty, length-decimal-le}
 use Rattle.std.proofs.lemmas.Int.Digits.{number_push}
 use Rattle.std.proofs.ByRecursion.{All-push, All-weaker}
@@ -73,7 +73,7 @@ IsDigit b = (48 ≤ b) × (b ≤ 57)
 
 -- digits only, of that value
 abbrev Spells : ℕ → List ℕ → Type 0
-Spells n ds = All IsDigit ds × (number_from_digits 10 (map digit_of ds) ≡ n)
+Spells n ds = AllByRecursion IsDigit ds × (number_from_digits 10 (map digit_of ds) ≡ n)
 
 decimal_spells : (n : ℕ) → n < 2 ^ 64 → Spells n (decimal n)
 decimal_spells = decimal_by_steps Spells one more
@@ -87,7 +87,7 @@ decimal_spells = decimal_by_steps Spells one more
       ap (number_from_digits 10) (map-append digit_of ds ((48 + n % 10) ∷ [])) ∙ number_push 10 (map digit_of ds) (digit_of (48 + n % 10)) ∙ omega (arith, s.1),
     )
 
-run_whole : (ds rest : List ℕ) → All IsDigit ds → stops rest ≡ true → run (ds ++ rest) ≡ length ds
+run_whole : (ds rest : List ℕ) → AllByRecursion IsDigit ds → stops rest ≡ true → run (ds ++ rest) ≡ length ds
 run_whole [] [] a s = refl
 run_whole [] (b ∷ rest) a s = cond-false (is_ascii_digit b) _ _ (ap is_ascii_digit (eqb-true b 32 s))
 run_whole (d ∷ ds) rest a s =
@@ -142,7 +142,7 @@ module _ (t : NumberType) (w : Whole t) where
   small_neg : (n : ℕ) → fits t (negsuc n) ≡ true → suc n < 2 ^ 64
   small_neg n f = omega (arith, fits_neg t w n f, w.few true)
 
-  no_sign : (ds rest : List ℕ) → 0 < length ds → All IsDigit ds
+  no_sign : (ds rest : List ℕ) → 0 < length ds → AllByRecursion IsDigit ds
       → signed_call front t true true (ds ++ rest) ≡ front_up_to (limit t false) true (ds ++ rest)
   no_sign [] rest some a = absurd (omega arith)
   no_sign (d ∷ ds) rest some a =
@@ -165,7 +165,7 @@ module _ (t : NumberType) (w : Whole t) where
   numeral_some (pos n) f = decimal_nonempty n (small_pos n f)
   numeral_some (negsuc n) f = omega arith
 
-  pub numeral_word : (v : ℤ) → fits t v ≡ true → All WordByte (signed_decimal v)
+  pub numeral_word : (v : ℤ) → fits t v ≡ true → AllByRecursion WordByte (signed_decimal v)
   numeral_word (pos n) f = All-weaker IsDigit WordByte digit_is_word_byte (decimal n) (decimal_spells n (small_pos n f)).0
   numeral_word (negsuc n) f = (
     (omega arith, λ e. omega arith, λ e. omega arith),

@@ -2,7 +2,7 @@
 use Rattle.std.proofs.Common.{◌≡◌, ℕ, zero, suc, ◌<◌, Bool, true, false, cond, ◌≢◌, ◌⊎◌, ◌↔◌, List, [], ◌∷◌, ◌++◌, length, get_or, take, drop, ℤ, sym, refl, ap, ◌∙◌, subst, ap₂, inl, inr, ⊎_elim, arith}
 use mathlib.Core.List.{List-discrete}
 use lib.IntN.{ℤ_discrete}
-use Rattle.std.specs.List.{AllByRecursion as All}
+use Rattle.std.specs.List.{AllByRecursion}
 use Rattle.std.proofs.lemmas.Bool.{both_ways}
 use Rattle.records.specs.Kind.{Kind, IsRecord, Lawful}
 use Rattle.model.specs.History.{Rising, Holds}
@@ -13,12 +13,12 @@ Row = List ℤ
 pub row_discrete : (r q : Row) → Dec (r ≡ q)
 row_discrete r q = List-discrete ℤ_discrete r q
 
-pub holds_all : (P : Row → Type 0) (xs : List Row) (r : Row) → All P xs → Holds xs r → P r
+pub holds_all : (P : Row → Type 0) (xs : List Row) (r : Row) → AllByRecursion P xs → Holds xs r → P r
 holds_all P [] r a h = absurd h
 holds_all P (x ∷ xs) r a (inl e) = subst P e a.0
 holds_all P (x ∷ xs) r a (inr h) = holds_all P xs r a.1 h
 
-pub all_holds : (P : Row → Type 0) (xs : List Row) → ((r : Row) → Holds xs r → P r) → All P xs
+pub all_holds : (P : Row → Type 0) (xs : List Row) → ((r : Row) → Holds xs r → P r) → AllByRecursion P xs
 all_holds P [] f = tt
 all_holds P (x ∷ xs) f = (f x (inl refl), all_holds P xs (λ r h. f r (inr h)))
 
@@ -35,23 +35,23 @@ module _ (k : Kind) (law : Lawful k) where
   pub asym : (x y : Row) → IsRecord k x → IsRecord k y → k.before x y ≡ true → k.before y x ≡ true → ⊥
   asym x y rx ry p q = both_ways (k.before x x) (law.irreflexive x rx) (law.transitive x y x rx ry rx p q)
 
-  pub not_later : (x : Row) (xs : List Row) → IsRecord k x → All (λ y. k.before x y ≡ true) xs → Holds xs x → ⊥
+  pub not_later : (x : Row) (xs : List Row) → IsRecord k x → AllByRecursion (λ y. k.before x y ≡ true) xs → Holds xs x → ⊥
   not_later x xs rx a h = both_ways (k.before x x) (law.irreflexive x rx) (holds_all (λ y. k.before x y ≡ true) xs x a h)
 
   -- what comes before a record comes before all that it comes before
-  pub before_all : (x y : Row) (zs : List Row) → IsRecord k x → IsRecord k y → All (IsRecord k) zs → k.before x y ≡ true
-      → All (λ z. k.before y z ≡ true) zs → All (λ z. k.before x z ≡ true) zs
+  pub before_all : (x y : Row) (zs : List Row) → IsRecord k x → IsRecord k y → AllByRecursion (IsRecord k) zs → k.before x y ≡ true
+      → AllByRecursion (λ z. k.before y z ≡ true) zs → AllByRecursion (λ z. k.before x z ≡ true) zs
   before_all x y [] rx ry rs e a = tt
   before_all x y (z ∷ zs) rx ry rs e a = (law.transitive x y z rx ry rs.0 e a.0, before_all x y zs rx ry rs.1 e a.1)
 
   -- lists with equal heads, the second of which holds what the first does
-  tails : (x y : Row) (xs ys : List Row) → x ≡ y → IsRecord k x → All (λ z. k.before x z ≡ true) xs
+  tails : (x y : Row) (xs ys : List Row) → x ≡ y → IsRecord k x → AllByRecursion (λ z. k.before x z ≡ true) xs
       → ((r : Row) → Holds (x ∷ xs) r → Holds (y ∷ ys) r) → (r : Row) → Holds xs r → Holds ys r
   tails x y xs ys same rx up f r h =
       ⊎_elim (λ e. absurd (not_later x xs rx up (subst (Holds xs) (sym e ∙ sym same) h))) (λ p. p) (f r (inr h))
 
   -- a rising list is known by what it holds
-  pub rising_unique : (xs ys : List Row) → All (IsRecord k) xs → All (IsRecord k) ys → Rising k xs → Rising k ys
+  pub rising_unique : (xs ys : List Row) → AllByRecursion (IsRecord k) xs → AllByRecursion (IsRecord k) ys → Rising k xs → Rising k ys
       → ((r : Row) → Holds xs r → Holds ys r) → ((r : Row) → Holds ys r → Holds xs r) → xs ≡ ys
   rising_unique [] [] rx ry ux uy f g = refl
   rising_unique [] (y ∷ ys) rx ry ux uy f g = absurd (g y (inl refl))
@@ -95,7 +95,7 @@ length-insert k r (x ∷ xs) = go (k.before r x) (length-insert k r xs)
     go true ih = refl
     go false ih = ap suc ih
 
-pub rising_insert : (k : Kind) → Lawful k → (r : Row) (xs : List Row) → IsRecord k r → All (IsRecord k) xs → Rising k xs → (Holds xs r → ⊥)
+pub rising_insert : (k : Kind) → Lawful k → (r : Row) (xs : List Row) → IsRecord k r → AllByRecursion (IsRecord k) xs → Rising k xs → (Holds xs r → ⊥)
     → Rising k (insert k r xs)
 rising_insert k law r [] rr rx u new = (tt, tt)
 rising_insert k law r (x ∷ xs) rr rx u new = go (k.before r x) refl (rising_insert k law r xs rr rx.1 u.1 (λ h. new (inr h)))
@@ -112,8 +112,8 @@ rising_insert k law r (x ∷ xs) rr rx u new = go (k.before r x) refl (rising_in
     go false e ih = (all_holds (λ z. k.before x z ≡ true) (insert k r xs) (after (less e)), ih)
 
 -- the record put into its place
-pub insert_at : (k : Kind) (r : Row) (xs : List Row) (i : ℕ) → All (λ x. k.before r x ≡ false) (take i xs)
-    → All (λ x. k.before r x ≡ true) (drop i xs) → insert k r xs ≡ take i xs ++ (r ∷ drop i xs)
+pub insert_at : (k : Kind) (r : Row) (xs : List Row) (i : ℕ) → AllByRecursion (λ x. k.before r x ≡ false) (take i xs)
+    → AllByRecursion (λ x. k.before r x ≡ true) (drop i xs) → insert k r xs ≡ take i xs ++ (r ∷ drop i xs)
 insert_at k r [] zero p q = refl
 insert_at k r [] (suc i) p q = refl
 insert_at k r (x ∷ xs) zero p q = rw q.0 refl
@@ -169,7 +169,7 @@ holds_at (x ∷ xs) zero d h = inl refl
 holds_at (x ∷ xs) (suc i) d h = inr (holds_at xs i d (omega arith))
 
 -- the record at a place taken out
-pub delete_at : (k : Kind) → Lawful k → (xs : List Row) (i : ℕ) (d : Row) → All (IsRecord k) xs → Rising k xs → i < length xs
+pub delete_at : (k : Kind) → Lawful k → (xs : List Row) (i : ℕ) (d : Row) → AllByRecursion (IsRecord k) xs → Rising k xs → i < length xs
     → delete (get_or xs i d) xs ≡ take i xs ++ drop (suc i) xs
 delete_at k law [] i d rs up h = absurd (omega arith)
 delete_at k law (x ∷ xs) zero d rs up h = go (row_discrete x x)
@@ -185,7 +185,7 @@ delete_at k law (x ∷ xs) (suc i) d rs up h = go (row_discrete x (get_or xs i d
     go (no f) ih = ap (λ t. x ∷ t) ih
 
 -- so there is one less
-pub length-delete : (k : Kind) → Lawful k → (r : Row) (xs : List Row) → All (IsRecord k) xs → Rising k xs → Holds xs r
+pub length-delete : (k : Kind) → Lawful k → (r : Row) (xs : List Row) → AllByRecursion (IsRecord k) xs → Rising k xs → Holds xs r
     → suc (length (delete r xs)) ≡ length xs
 length-delete k law r [] rs up h = absurd h
 length-delete k law r (x ∷ xs) rs up h = go (row_discrete x r) h (length-delete k law r xs rs.1 up.1)

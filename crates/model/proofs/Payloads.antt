@@ -1,6 +1,6 @@
 -- Payloads of records, one after another: written and read back, and read and written back.
 use Rattle.std.proofs.Common.{◌≡◌, ℕ, zero, suc, ◌+◌, ◌-◌, ◌*◌, ◌^◌, ◌<◌, ◌≤◌, Bool, true, false, not, leb, List, [], ◌∷◌, ◌++◌, length, take, drop, ℤ, pos, negsuc, nat_abs, Some, Option, sym, refl, ap, ◌∙◌, subst, ap₂, append_assoc, mod-lt, suc-mul, arith}
-use Rattle.std.specs.List.{AllByRecursion as All}
+use Rattle.std.specs.List.{AllByRecursion}
 use Rattle.std.proofs.ByRecursion.{All-drop}
 use Rattle.std.proofs.lemmas.List.{drop_at, drop-drop, length-append, length-drop, take-append-drop}
 use Rattle.std.proofs.lemmas.Bool.{and_from, cond-false, cond-true, leb-false, leb-true, not-false}
@@ -29,10 +29,10 @@ front-take (suc w) [] h = absurd (omega arith)
 front-take (suc w) (b ∷ bs) h = ap (λ l. b ∷ l) (front-take w bs (omega arith))
 
 -- the bytes of the word that bytes make
-pub bytes_word : (w : ℕ) (bs : List ℕ) → All Byte bs → w ≤ length bs → bytes_le w (word_le (take w bs)) ≡ take w bs
+pub bytes_word : (w : ℕ) (bs : List ℕ) → AllByRecursion Byte bs → w ≤ length bs → bytes_le w (word_le (take w bs)) ≡ take w bs
 bytes_word w bs all h = word_bytes w bs all ∙ front-take w bs h
 
-word_below : (w : ℕ) (bs : List ℕ) → All Byte bs → 0 < 256 ^ w → word_le (take w bs) < 256 ^ w
+word_below : (w : ℕ) (bs : List ℕ) → AllByRecursion Byte bs → 0 < 256 ^ w → word_le (take w bs) < 256 ^ w
 word_below w bs all some =
     subst (λ n. n < 256 ^ w) (low_word w w (word_le (take w bs)) bs (omega arith) (word_bytes w bs all)) (mod-lt (word_le (take w bs)) some)
 
@@ -54,7 +54,7 @@ code-decode t reg n h = go (leb n (nat_abs t.numbers.greatest)) refl
         (ap (code t) d ∙ back, ap (holds t) d ∙ neg_fits t.numbers reg.whole (suc m) near)
 
 -- bytes that are long enough begin with a payload
-pub numbers-payload : (ts : List FieldType) (bs : List ℕ) → All Regular ts → All Byte bs → payload_size ts ≤ length bs
+pub numbers-payload : (ts : List FieldType) (bs : List ℕ) → AllByRecursion Regular ts → AllByRecursion Byte bs → payload_size ts ≤ length bs
     → (bs ≡ payload ts (numbers_of ts bs) ++ drop (payload_size ts) bs) × (fit_all ts (numbers_of ts bs) ≡ true)
 numbers-payload [] bs regs all h = (refl, refl)
 numbers-payload (t ∷ ts) bs regs all h =
@@ -73,7 +73,7 @@ numbers-payload (t ∷ ts) bs regs all h =
 
 -- ---- one after another
 
-pub length-payloads : (k : Kind) (xs : List (List ℤ)) → All (IsRecord k) xs → length (payloads k xs) ≡ length xs * payload_size k.types
+pub length-payloads : (k : Kind) (xs : List (List ℤ)) → AllByRecursion (IsRecord k) xs → length (payloads k xs) ≡ length xs * payload_size k.types
 length-payloads k [] rs = omega arith
 length-payloads k (x ∷ xs) rs =
     let e = length-payload k.types x rs.0.fitting in
@@ -81,8 +81,8 @@ length-payloads k (x ∷ xs) rs =
     length-append (payload k.types x) (payloads k xs) ∙ rw suc-mul (omega arith)
 
 -- rising records are read back where their payloads stand
-pub records_read : (k : Kind) (bytes rest : List ℕ) (xs : List (List ℤ)) (at : ℕ) (last : Option (List ℤ)) → All Regular k.types
-    → All (IsRecord k) xs → Rising k xs → All (λ y. after k last y ≡ true) xs → drop at bytes ≡ payloads k xs ++ rest
+pub records_read : (k : Kind) (bytes rest : List ℕ) (xs : List (List ℤ)) (at : ℕ) (last : Option (List ℤ)) → AllByRecursion Regular k.types
+    → AllByRecursion (IsRecord k) xs → Rising k xs → AllByRecursion (λ y. after k last y ≡ true) xs → drop at bytes ≡ payloads k xs ++ rest
     → read_records k bytes (length xs) at last ≡ got xs
 records_read k bytes rest [] at last regs rs up past e = refl
 records_read k bytes rest (x ∷ xs) at last regs rs up past e =
@@ -104,11 +104,11 @@ Chain k last (x ∷ xs) = (after k last x ≡ true) × Chain k (Some x) xs
 -- what n records are that were read at a place
 pub record Run (k : Kind) (bytes : List ℕ) (n at : ℕ) (last : Option (List ℤ)) (xs : List (List ℤ)) : Type 0 where
   pub count : length xs ≡ n
-  pub records : All (IsRecord k) xs
+  pub records : AllByRecursion (IsRecord k) xs
   pub chain : Chain k last xs
   pub here : drop at bytes ≡ payloads k xs ++ drop (at + n * payload_size k.types) bytes
 
-pub records_sound : (k : Kind) (bytes : List ℕ) (n at : ℕ) (last : Option (List ℤ)) (xs : List (List ℤ)) → All Regular k.types → All Byte bytes
+pub records_sound : (k : Kind) (bytes : List ℕ) (n at : ℕ) (last : Option (List ℤ)) (xs : List (List ℤ)) → AllByRecursion Regular k.types → AllByRecursion Byte bytes
     → at + n * payload_size k.types ≤ length bytes → read_records k bytes n at last ≡ got xs → Run k bytes n at last xs
 records_sound k bytes zero at last xs regs all room e =
     let none : [] ≡ xs = got_same (got []) [] xs refl e in
@@ -135,10 +135,10 @@ records_sound k bytes (suc n) at last xs regs all room e =
       here = one.0 ∙ ap (λ l. payload ts r ++ l) rest ∙ sym (append_assoc (payload ts r) (payloads k ys) far);
     })
 
-pub chain_rising : (k : Kind) → Lawful k → (last : Option (List ℤ)) (xs : List (List ℤ)) → All (IsRecord k) xs → Chain k last xs → Rising k xs
+pub chain_rising : (k : Kind) → Lawful k → (last : Option (List ℤ)) (xs : List (List ℤ)) → AllByRecursion (IsRecord k) xs → Chain k last xs → Rising k xs
 chain_rising k law last [] rs c = tt
 chain_rising k law last (x ∷ xs) rs c = let up = chain_rising k law (Some x) xs rs.1 c.1 in (later xs rs.1 c.1 up, up)
   where
-    later : (ys : List (List ℤ)) → All (IsRecord k) ys → Chain k (Some x) ys → Rising k ys → All (λ y. k.before x y ≡ true) ys
+    later : (ys : List (List ℤ)) → AllByRecursion (IsRecord k) ys → Chain k (Some x) ys → Rising k ys → AllByRecursion (λ y. k.before x y ≡ true) ys
     later [] rys d up = tt
     later (y ∷ ys) rys d up = (d.0, before_all k law x y ys rs.0 rys.0 rys.1 d.0 up.0)

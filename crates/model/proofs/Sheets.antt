@@ -1,7 +1,7 @@
 -- Every history has one sheet, which is read as the records it was written from, and equal sheets have the same records.
 use Rattle.std.proofs.Common.{◌≡◌, ℕ, ltb, ◌↔◌, List, [], ◌++◌, length, drop, sym, refl, ap, ◌∙◌, subst, ap₂, append-nil, arith}
 use mathlib.Core.Logic.Iff
-use Rattle.std.specs.List.{AllByRecursion as All}
+use Rattle.std.specs.List.{AllByRecursion}
 use Rattle.std.proofs.lemmas.List.{drop_all, length-drop}
 use Rattle.std.proofs.lemmas.Bool.{le-ltb, ltb-false}
 use Rattle.records.specs.Kind.{Kind, Lawful}
@@ -33,7 +33,7 @@ module _ (a b : Kind) (la : Lawful a) (lb : Lawful b) where
       ∙ refuse_pass (ltb end (length bytes)) (plain 27 end) (got (both xs ys))
       (le-ltb end (length bytes) (omega (arith, length-drop end bytes, ap length none)))
 
-  pub sheet_sound : (bytes : List ℕ) (z : Both) → All Byte bytes → read_sheet a b bytes ≡ got z
+  pub sheet_sound : (bytes : List ℕ) (z : Both) → AllByRecursion Byte bytes → read_sheet a b bytes ≡ got z
       → Content a z.in₁ × Content b z.in₂ × (bytes ≡ frame a z.in₁ ++ frame b z.in₂)
   sheet_sound bytes z all e =
       let at = behind bytes 0 in

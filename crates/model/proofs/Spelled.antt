@@ -1,7 +1,7 @@
 -- For each record a line of bytes that reads as it.
 use Rattle.std.proofs.Common.{◌≡◌, ℕ, ◌+◌, ◌<◌, true, false, not, ltb, ◌≢◌, List, [], ◌∷◌, ◌++◌, length, take, drop, ℤ, sym, refl, ap, ◌∙◌, ⊎_elim, append_assoc, arith}
 use Rattle.std.specs.Fmt.{signed_decimal}
-use Rattle.std.specs.List.{prefix_len, AllByRecursion as All}
+use Rattle.std.specs.List.{prefix_len, AllByRecursion}
 use Rattle.std.specs.Str.{bytes_eq}
 use Rattle.std.proofs.ByRecursion.{All-append, All-weaker}
 use Rattle.std.proofs.lemmas.Slice.Eq.{bytes_eq-Decides}
@@ -27,12 +27,12 @@ spelled_stops : (vs : List ℤ) → stops (spelled vs) ≡ true
 spelled_stops [] = refl
 spelled_stops (v ∷ vs) = refl
 
-word_first : (w rest : List ℕ) → 0 < length w → All WordByte w → prefix_len is_space (w ++ rest) ≡ 0
+word_first : (w rest : List ℕ) → 0 < length w → AllByRecursion WordByte w → prefix_len is_space (w ++ rest) ≡ 0
 word_first [] rest some a = absurd (omega arith)
 word_first (b ∷ w) rest some a = cond-false (is_space b) _ _ (ne_eqb b 32 a.0.1)
 
 -- the line is what stands before the place, and the numbers from it on
-numbers_read : (ts : List FieldType) → All Regular ts → (vs : List ℤ) (line before : List ℕ) (at : ℕ) → length before ≡ at
+numbers_read : (ts : List FieldType) → AllByRecursion Regular ts → (vs : List ℤ) (line before : List ℕ) (at : ℕ) → length before ≡ at
     → line ≡ before ++ spelled vs → fit_all ts vs ≡ true → read_numbers ts line at ≡ got vs
 numbers_read [] regs [] line before at l e h =
     let len : length line ≡ at = ap length e ∙ length-append before [] ∙ omega arith in
@@ -69,7 +69,7 @@ numbers_read (t ∷ ts) regs (v ∷ vs) line before at l e h =
 abbrev pub line_of : Kind → List ℤ → List ℕ
 line_of k r = k.word ++ spelled r
 
-word_end_spelled : (w rest : List ℕ) → All WordByte w → stops rest ≡ true → word_end (w ++ rest) ≡ length w
+word_end_spelled : (w rest : List ℕ) → AllByRecursion WordByte w → stops rest ≡ true → word_end (w ++ rest) ≡ length w
 word_end_spelled [] [] a s = refl
 word_end_spelled [] (b ∷ rest) a s = cond-false (not (is_space b)) _ _ (not_from_true (is_space b) s)
 word_end_spelled (c ∷ w) rest a s =
@@ -107,18 +107,18 @@ line_read c laws apart second r is =
 
 -- ---- the line is bytes
 
-word_is_bytes : (w : List ℕ) → All WordByte w → All Byte w
+word_is_bytes : (w : List ℕ) → AllByRecursion WordByte w → AllByRecursion Byte w
 word_is_bytes w a = All-weaker WordByte Byte (λ b p. p.0) w a
 
-spelled_bytes : (ts : List FieldType) (vs : List ℤ) → All Regular ts → fit_all ts vs ≡ true → All Byte (spelled vs)
+spelled_bytes : (ts : List FieldType) (vs : List ℤ) → AllByRecursion Regular ts → fit_all ts vs ≡ true → AllByRecursion Byte (spelled vs)
 spelled_bytes [] [] regs h = tt
 spelled_bytes [] (v ∷ vs) regs h = absurd (false≢true h)
 spelled_bytes (t ∷ ts) [] regs h = absurd (false≢true h)
 spelled_bytes (t ∷ ts) (v ∷ vs) regs h =
     let p = and_parts (holds t v) (fit_all ts vs) h in
-    let num : All Byte (signed_decimal v) = word_is_bytes (signed_decimal v) (numeral_word t.numbers regs.0.whole v p.0) in
+    let num : AllByRecursion Byte (signed_decimal v) = word_is_bytes (signed_decimal v) (numeral_word t.numbers regs.0.whole v p.0) in
     (omega arith, All-append Byte (signed_decimal v) (spelled vs) num (spelled_bytes ts vs regs.1 p.1))
 
-pub line_bytes : (k : Kind) → Lawful k → (r : List ℤ) → IsRecord k r → All Byte (line_of k r)
+pub line_bytes : (k : Kind) → Lawful k → (r : List ℤ) → IsRecord k r → AllByRecursion Byte (line_of k r)
 line_bytes k law r is =
     All-append Byte k.word (spelled r) (word_is_bytes k.word law.word_bytes) (spelled_bytes k.types r law.types_regular is.fitting)

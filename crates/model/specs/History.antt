@@ -1,6 +1,6 @@
 -- A recipe's history, and what is live after it.
 use Rattle.std.specs.Prelude.{◌≡◌, ℕ, min, true, ◌≢◌, ◌⊎◌, ◌↔◌, List, [], ◌∷◌, ◌++◌, length, ℤ}
-use Rattle.std.specs.List.{AllByRecursion as All}
+use Rattle.std.specs.List.{AllByRecursion}
 use Rattle.records.specs.Kind.{Kind}
 use Rattle.records.specs.Line.{Section, first, second, InSection, read_line}
 use Rattle.records.specs.Outcome.{Outcome, got}
@@ -53,7 +53,7 @@ Holds (x ∷ xs) r = (x ≡ r) ⊎ Holds xs r
 -- each record comes before all later ones
 abbrev pub Rising : Kind → List (List ℤ) → Type 0
 Rising k [] = Unit {0}
-Rising k (x ∷ xs) = All (λ y. k.before x y ≡ true) xs × Rising k xs
+Rising k (x ∷ xs) = AllByRecursion (λ y. k.before x y ≡ true) xs × Rising k xs
 
 -- the list holds just the records of which P holds, in rising order
 pub record Listed (k : Kind) (P : List ℤ → Type 0) (xs : List (List ℤ)) : Type 0 where

@@ -1,6 +1,6 @@
 -- The law of recipes and their sheets, over two kinds.
 use Rattle.std.specs.Prelude.{◌≡◌, ℕ, ◌<◌, ◌≢◌, ◌↔◌, List, ℤ}
-use Rattle.std.specs.List.{AllByRecursion as All}
+use Rattle.std.specs.List.{AllByRecursion}
 use Rattle.records.specs.Kind.{Kind}
 use Rattle.records.specs.Line.{Section, first, second}
 use Rattle.records.specs.Outcome.{got}
@@ -14,8 +14,8 @@ Byte b = b < 256
 
 -- the call's line is bytes
 abbrev pub Proper : Call → Type 0
-Proper (enter line) = All Byte line
-Proper (strike line) = All Byte line
+Proper (enter line) = AllByRecursion Byte line
+Proper (strike line) = AllByRecursion Byte line
 Proper clear = Unit {0}
 
 -- each call has one answer, which is no refusal exactly where the call is accepted
@@ -42,11 +42,11 @@ module _ (a b : Kind) where
 
   -- the bytes are the sheet of some recipe, on some slots and after some history
   abbrev pub SomeSheet : List ℕ → Type 0
-  SomeSheet bs = (m : ℕ) × (n : ℕ) × (h : History) × All Proper h × Sheet (over a b m n) h bs
+  SomeSheet bs = (m : ℕ) × (n : ℕ) × (h : History) × AllByRecursion Proper h × Sheet (over a b m n) h bs
 
   -- the reader accepts just what some recipe writes, and gives that recipe's live records in rising order
   pub record ReadsSheets : Type 0 where
-    pub accepts : (bs : List ℕ) → All Byte bs → ((both : Both) × (read_sheet a b bs ≡ got both)) ↔ SomeSheet bs
+    pub accepts : (bs : List ℕ) → AllByRecursion Byte bs → ((both : Both) × (read_sheet a b bs ≡ got both)) ↔ SomeSheet bs
     pub gives : (m n : ℕ) (h : History) (bs : List ℕ) (both : Both) → Sheet (over a b m n) h bs → read_sheet a b bs ≡ got both
         → Listed a (Live (over a b m n) h first) both.in₁ × Listed b (Live (over a b m n) h second) both.in₂
 

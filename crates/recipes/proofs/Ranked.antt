@@ -1,6 +1,6 @@
 -- The place of a record among records in rising order.
 use Rattle.std.proofs.Common.{◌≡◌, ℕ, suc, ◌+◌, Bool, true, false, cond, ◌⊎◌, List, [], ◌∷◌, drop, sym, refl, ap, ◌∙◌, subst, inl, inr, ⊎_elim, arith}
-use Rattle.std.specs.List.{insert as inserted, remove, AllByRecursion as All}
+use Rattle.std.specs.List.{insert as inserted, remove, AllByRecursion}
 use Rattle.std.specs.Ordering.{is_eq}
 use Rattle.std.proofs.lemmas.Bool.{both_ways, cond-true, cond-false}
 use Rattle.records.specs.Kind.{Kind, IsRecord, Lawful, ordering}
@@ -36,7 +36,7 @@ module _ (k : Kind) (law : Lawful k) (r : Row) (rr : IsRecord k r) where
   among_here : (x : Row) (xs : List Row) → k.before x r ≡ false → is_among k r (x ∷ xs) ≡ is_eq (ordering k x r)
   among_here x xs e = ap (λ p. begins k r (drop p (x ∷ xs))) (place_here x xs e)
 
-  pub among_holds : (xs : List Row) → All (IsRecord k) xs → is_among k r xs ≡ true → Holds xs r
+  pub among_holds : (xs : List Row) → AllByRecursion (IsRecord k) xs → is_among k r xs ≡ true → Holds xs r
   among_holds [] rs e = absurd (both_ways false refl e)
   among_holds (x ∷ xs) rs e = go (k.before x r) refl (λ h. among_holds xs rs.1 h)
     where
@@ -55,7 +55,7 @@ module _ (k : Kind) (law : Lawful k) (r : Row) (rr : IsRecord k r) where
       go false p (inr g) ih = absurd (both_ways (k.before x r) p (holds_all (λ y. k.before x y ≡ true) xs r up.0 g))
 
   -- put in at its place, the record is inserted
-  pub insert_place : (xs : List Row) → All (IsRecord k) xs → (Holds xs r → ⊥) → inserted xs (place_of k r xs) r ≡ insert k r xs
+  pub insert_place : (xs : List Row) → AllByRecursion (IsRecord k) xs → (Holds xs r → ⊥) → inserted xs (place_of k r xs) r ≡ insert k r xs
   insert_place [] rs new = refl
   insert_place (x ∷ xs) rs new = go (k.before x r) refl (insert_place xs rs.1 (λ h. new (inr h)))
     where
@@ -80,7 +80,7 @@ module _ (k : Kind) (law : Lawful k) (r : Row) (rr : IsRecord k r) where
       go (no g) ih = ap (λ t. x ∷ t) ih
 
   -- taken out at its place, the record is deleted
-  pub delete_place : (xs : List Row) → All (IsRecord k) xs → Rising k xs → is_among k r xs ≡ true → remove xs (place_of k r xs) ≡ delete r xs
+  pub delete_place : (xs : List Row) → AllByRecursion (IsRecord k) xs → Rising k xs → is_among k r xs ≡ true → remove xs (place_of k r xs) ≡ delete r xs
   delete_place [] rs up e = absurd (both_ways false refl e)
   delete_place (x ∷ xs) rs up e = go (k.before x r) refl (row_discrete x r) (λ h. delete_place xs rs.1 up.1 h)
     where

@@ -1,6 +1,6 @@
 -- A call leads from sections that a history reached to those that the longer history reaches, and its answer is the one that the history defines.
 use Rattle.std.proofs.Common.{◌≡◌, ℕ, suc, ◌+◌, ◌-◌, ◌<◌, ◌≤◌, Bool, true, false, cond, not, ◌&&◌, ◌||◌, ◌≢◌, ◌⊎◌, ◌↔◌, List, [], ◌∷◌, ◌++◌, map, length, take, drop, ℤ, sym, refl, ap, ◌∙◌, subst, ap₂, ⊎_elim, arith}
-use Rattle.std.specs.List.{insert as inserted, remove, AllByRecursion as All}
+use Rattle.std.specs.List.{insert as inserted, remove, AllByRecursion}
 use Rattle.std.proofs.lemmas.List.{length-take-le, take_at, length-append, length-drop}
 use Rattle.std.proofs.lemmas.Bool.{both_ways, eqb-true, eqb-false}
 use Rattle.records.specs.Kind.{Kind, IsRecord, Lawful}
@@ -34,7 +34,7 @@ module _ (c : Layout) (laws : (s : Section) → Lawful (kind c s)) (h : History)
   is_record : IsRecord (kind c x) r
   is_record = line_is c laws line (record { section = x; numbers = r }) e
 
-  records : All (IsRecord (kind c x)) (live s)
+  records : AllByRecursion (IsRecord (kind c x)) (live s)
   records = listed_records (kind c x) (Live c h x) (live s) (live_records c laws h x) i.listed
 
   absent : is_among (kind c x) r (live s) ≡ false → Holds (live s) r → ⊥

@@ -10,7 +10,7 @@ ghost use Rattle.recipes.specs.Slots.{live};
 
 use crate::refusal::{Counted, RecipeRefusal};
 use crate::section::{Section, write_sections};
-use records::kind::{LineKind, RecordKind};
+use records::kind::{LineKind, RecordKind, SheetKind};
 use records::line::{Named, read_line};
 use sheets::TooShort;
 
@@ -98,7 +98,7 @@ pub struct Recipe<'a, A, B> {
     ghost second_within: { Within second },
 }
 
-impl<'a, A: LineKind, B: LineKind> Recipe<'a, A, B> {
+impl<'a, A: SheetKind, B: SheetKind> Recipe<'a, A, B> {
     // An empty recipe over two runs of slots, whatever they hold.
     pub fn open(first: &'a mut [A], second: &'a mut [B]) -> Recipe<'a, A, B>
         ensures sections { both A.RecordKind.numbers B.RecordKind.numbers result.first result.second

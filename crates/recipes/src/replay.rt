@@ -10,7 +10,7 @@ ghost use Rattle.recipes.specs.Rows.{both, Within, SameSlots};
 
 use crate::recipe::{clear_both, enter_line, strike_line};
 use crate::section::{Section, write_sections};
-use records::kind::{LineKind, RecordKind};
+use records::kind::{LineKind, RecordKind, SheetKind};
 use sheets::TooShort;
 
 // A call to be made.
@@ -50,7 +50,7 @@ fn make<A: LineKind, B: LineKind>(
 }
 
 // Opens a recipe on the slots, makes the calls in turn, refused ones too, and writes the sheet.
-pub fn replay<A: LineKind, B: LineKind>(
+pub fn replay<A: SheetKind, B: SheetKind>(
     commands: &[Command],
     first: &mut [A],
     second: &mut [B],

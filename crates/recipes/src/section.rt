@@ -7,7 +7,7 @@ ghost use Rattle.recipes.specs.Rows.{seen, Within, SameSlots};
 ghost use Rattle.recipes.specs.Slots.{is_among, live, turns_away, entered, struck, cleared};
 
 use crate::slots::{enter_among, strike_among};
-use records::kind::{LineKind, RecordKind};
+use records::kind::{LineKind, RecordKind, SheetKind};
 use sheets::{TooShort, frame_size, write_sheet};
 
 #[derive(Drop)]
@@ -65,17 +65,20 @@ impl<'a, R: RecordKind> Section<'a, R> {
         n
     }
 
+}
+
+impl<'a, R: SheetKind> Section<'a, R> {
     // How many bytes the section's frame has.
     pub(crate) fn frame_size(&self) -> usize
         requires { Within self.now }
-        ensures { result ≡ length (frame R.means (live (seen R.numbers self.now))) }
+        ensures { result ≡ length (frame R.RecordKind.means (live (seen R.RecordKind.numbers self.now))) }
     {
         frame_size::<R>(self.count)
     }
 }
 
 // Writes the sheet of two sections.
-pub(crate) fn write_sections<A: LineKind, B: LineKind>(
+pub(crate) fn write_sections<A: SheetKind, B: SheetKind>(
     first: &Section<A>,
     second: &Section<B>,
     out: &mut [u8],

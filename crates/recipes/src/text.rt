@@ -9,7 +9,7 @@ ghost use Rattle.recipes.specs.Texts.{entering, TakesText};
 use crate::recipe::enter_line;
 use crate::refusal::RecipeRefusal;
 use crate::section::{Section, write_sections};
-use records::kind::{LineKind, RecordKind};
+use records::kind::{LineKind, RecordKind, SheetKind};
 use records::reader::LineReader;
 
 // How many bytes each frame of a sheet has.
@@ -68,7 +68,7 @@ fn enter_lines<'t, A: LineKind, B: LineKind>(
 
 // Opens a recipe on the slots, enters the lines of the text in turn, empty ones left out, and writes
 // the sheet into the buffer's first bytes; or says which line is refused first, and why.
-pub fn enter_text<'t, A: LineKind, B: LineKind>(
+pub fn enter_text<'t, A: SheetKind, B: SheetKind>(
     text: &'t [u8],
     first: &mut [A],
     second: &mut [B],

@@ -3,7 +3,7 @@ use Rattle.std.proofs.Common.{◌≡◌, ℕ, zero, suc, ◌+◌, ◌-◌, ◌*�
 use native.Mathlib.Nat.{pow-succ'}
 use lib.Arith.{mod-mul}
 use Rattle.std.proofs.lemmas.List.{set_at, drop_at, drop_more, length-append, length-take-le, take-append-drop, take-append-le, take-take}
-use Rattle.std.specs.List.{AllByRecursion as All}
+use Rattle.std.specs.List.{AllByRecursion}
 use Rattle.std.proofs.lemmas.Bool.{and_parts}
 use Rattle.words.specs.Bytes.{bytes_le, word_le, front}
 use Rattle.words.proofs.Shifted.{length-bytes_le}
@@ -11,12 +11,12 @@ use Rattle.records.specs.FieldType.{FieldType, Regular, holds}
 use Rattle.records.specs.Kind.{fit_all}
 use Rattle.records.specs.Payload.{code, payload, payload_size, put}
 
-pub size_most : (ts : List FieldType) → All Regular ts → payload_size ts ≤ 8 * length ts
+pub size_most : (ts : List FieldType) → AllByRecursion Regular ts → payload_size ts ≤ 8 * length ts
 size_most [] rs = omega arith
 size_most (t ∷ ts) rs = let few = rs.0.few in omega (arith, size_most ts rs.1)
 
 -- a size that is cut off at the greatest `usize` is exact for eight types and fewer
-pub size_exact : (ts : List FieldType) (r : ℕ) → r ≡ min (payload_size ts) (2 ^ 64 - 1) → All Regular ts → length ts ≤ 8 → r ≡ payload_size ts
+pub size_exact : (ts : List FieldType) (r : ℕ) → r ≡ min (payload_size ts) (2 ^ 64 - 1) → AllByRecursion Regular ts → length ts ≤ 8 → r ≡ payload_size ts
 size_exact ts r e rs few = omega (arith, size_most ts rs)
 
 pub length-payload : (ts : List FieldType) (vs : List ℤ) → fit_all ts vs ≡ true → length (payload ts vs) ≡ payload_size ts

@@ -1,8 +1,6 @@
 -- The whole number types of 1 to 8 bytes are regular.
 use Rattle.std.proofs.Common.{◌≡◌, ℕ, zero, suc, ◌+◌, ◌-◌, ◌*◌, ◌/◌, ◌^◌, ◌<◌, ◌≤◌, Bool, true, false, sym, refl, ap, ◌∙◌, pow-suc, arith, pow_pos, pow-add}
-use native.Mathlib.Nat.{pow-le-pow_right}
-use lib.Dec.{leb-zero}
-use Rattle.atoi_simd.specs.NumberType.{limit}
+use Rattle.atoi_simd.specs.WholeTypes.{unsigned_whole, signed_whole}
 use Rattle.records.specs.FieldType.{Regular, unsigned_of, signed_of}
 
 -- how many codes w bytes have
@@ -13,32 +11,21 @@ bytes_codes (suc w) =
     ap (λ k. 2 ^ k) more ∙ pow-add 2 (8 * w) 8 ∙ ap (λ n. n * 256) (bytes_codes w) ∙ sym (pow-suc 256 w)
 
 module _ (w : ℕ) (some : 1 ≤ w) (few : w ≤ 8) where
-  most : 2 ^ (8 * w) ≤ 2 ^ 64
-  most = let d : 8 * w ≤ 64 = omega arith in pow-le-pow_right {n = 2} (omega arith) d
-
   pub unsigned_regular : Regular (unsigned_of w)
   unsigned_regular = record {
-    whole = record { low = refl; high = leb-zero (2 ^ (8 * w) - 1); few = within };
+    whole = unsigned_whole (8 * w) (omega arith);
     codes = omega (arith, pow_pos (8 * w), bytes_codes w);
     some = some;
     few = few;
   }
-    where
-      within : (negated : Bool) → limit (unsigned_of w).numbers negated < 2 ^ 64
-      within true = omega arith
-      within false = omega (arith, most, pow_pos (8 * w))
 
   even : 2 ^ (8 * w) ≡ 2 ^ (8 * w - 1) * 2
   even = let up : 8 * w ≡ suc (8 * w - 1) = omega arith in ap (λ k. 2 ^ k) up ∙ pow-suc 2 (8 * w - 1)
 
   pub signed_regular : Regular (signed_of w)
   signed_regular = record {
-    whole = record { low = refl; high = leb-zero (2 ^ (8 * w) / 2 - 1); few = within };
+    whole = signed_whole (8 * w) (omega arith);
     codes = omega (arith, even, pow_pos (8 * w - 1), bytes_codes w);
     some = some;
     few = few;
   }
-    where
-      within : (negated : Bool) → limit (signed_of w).numbers negated < 2 ^ 64
-      within true = omega (arith, most, even, pow_pos (8 * w - 1))
-      within false = omega (arith, most, even, pow_pos (8 * w - 1))

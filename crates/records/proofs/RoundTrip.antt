@@ -1,7 +1,7 @@
 -- A payload read back.
 use Rattle.std.proofs.Common.{◌≡◌, ℕ, zero, suc, ◌-◌, ◌/◌, ◌%◌, ◌^◌, ◌<◌, ◌≤◌, true, leb, List, [], ◌∷◌, ◌++◌, take, ℤ, pos, negsuc, nat_abs, Some, None, Option, sym, refl, ap, ◌∙◌, ap₂, append_assoc, mod-eq_of_lt, arith}
 use lib.Signed.{le_z}
-use Rattle.std.specs.List.{AllByRecursion as All}
+use Rattle.std.specs.List.{AllByRecursion}
 use Rattle.std.proofs.lemmas.List.{drop_at}
 use Rattle.std.proofs.lemmas.Bool.{and_parts, cond-false, cond-true, leb-true, le-leb, lt-leb}
 use Rattle.words.specs.Bytes.{bytes_le, word_le, front}
@@ -50,7 +50,7 @@ front_at (suc w) v more = ap (λ bs. v % 256 ∷ bs) (front_at w (v / 256) more)
 pub word_bytes : (w v : ℕ) (more : List ℕ) → v < 256 ^ w → word_le (take w (bytes_le w v ++ more)) ≡ v
 word_bytes w v more h = sym (low_word w w v (bytes_le w v ++ more) (omega arith) (sym (front_at w v more))) ∙ mod-eq_of_lt h
 
-pub read_back : (ts : List FieldType) (vs : List ℤ) (more : List ℕ) → All Regular ts → fit_all ts vs ≡ true → numbers_of ts (payload ts vs ++ more) ≡ vs
+pub read_back : (ts : List FieldType) (vs : List ℤ) (more : List ℕ) → AllByRecursion Regular ts → fit_all ts vs ≡ true → numbers_of ts (payload ts vs ++ more) ≡ vs
 read_back [] [] more rs h = refl
 read_back [] (v ∷ vs) more rs h = let z : ◌≡◌ {A = ℕ} 0 1 = cc in absurd (omega arith)
 read_back (t ∷ ts) [] more rs h = let z : ◌≡◌ {A = ℕ} 0 1 = cc in absurd (omega arith)

@@ -2,7 +2,7 @@
 use Rattle.std.specs.Prelude.{◌≡◌, ℕ, ◌^◌, ◌<◌, ◌≤◌, Bool, true, false, cond, ◌&&◌, ◌≢◌, ◌⊎◌, List, [], ◌∷◌, length, ℤ}
 use Rattle.std.specs.declared.cmp.Ordering.TheVariants.{Less, Equal, Greater}
 use Rattle.std.specs.declared.cmp.Ordering.{Ordering}
-use Rattle.std.specs.List.{AllByRecursion as All}
+use Rattle.std.specs.List.{AllByRecursion}
 use Rattle.records.specs.FieldType.{FieldType, Regular, holds}
 
 -- The word that a line of the kind begins with, the kind's number on a sheet, the types of a record's numbers, the condition that they meet together,
@@ -43,11 +43,11 @@ WordByte b = (b < 256) × (b ≢ 32) × (b ≢ 10)
 pub record Lawful (k : Kind) : Type 0 where
   pub word_some : 1 ≤ length k.word
   pub word_short : length k.word ≤ 16
-  pub word_bytes : All WordByte k.word
+  pub word_bytes : AllByRecursion WordByte k.word
   pub number_fits : k.number < 2 ^ 16
   pub types_some : 1 ≤ length k.types
   pub types_few : length k.types ≤ 8
-  pub types_regular : All Regular k.types
+  pub types_regular : AllByRecursion Regular k.types
   pub irreflexive : (r : List ℤ) → IsRecord k r → k.before r r ≡ false
   pub total : (r s : List ℤ) → IsRecord k r → IsRecord k s → r ≢ s → (k.before r s ≡ true) ⊎ (k.before s r ≡ true)
   pub transitive : (r s u : List ℤ) → IsRecord k r → IsRecord k s → IsRecord k u → k.before r s ≡ true → k.before s u ≡ true → k.before r u ≡ true

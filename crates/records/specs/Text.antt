@@ -1,6 +1,6 @@
 -- The lines of a text.
 use Rattle.std.specs.Prelude.{◌≡◌, ℕ, suc, ◌+◌, min, Bool, true, false, cond, not, ◌≢◌, ◌⊎◌, List, [], ◌∷◌, ◌++◌, length, drop, ◌==◌}
-use Rattle.std.specs.List.{prefix_len, flat_map, AllByRecursion as All}
+use Rattle.std.specs.List.{prefix_len, flat_map, AllByRecursion}
 
 -- the byte is the one looked for, or it is not
 abbrev pub is_or_not : Bool → ℕ → ℕ → Bool
@@ -27,5 +27,5 @@ next_start text at = min (suc (line_end text at)) (length text)
 
 -- No line holds an LF, and the lines with an LF behind each are the text, or the text with an LF behind its last line.
 pub record Split (text : List ℕ) (lines : List (List ℕ)) : Type 0 where
-  pub bare : All (λ l. All (λ b. b ≢ 10) l) lines
+  pub bare : AllByRecursion (λ l. AllByRecursion (λ b. b ≢ 10) l) lines
   pub whole : (flat_map (λ l. l ++ (10 ∷ [])) lines ≡ text) ⊎ (flat_map (λ l. l ++ (10 ∷ [])) lines ≡ text ++ (10 ∷ []))

@@ -1,8 +1,8 @@
 // Record kinds: what a kind means, and what its plain rows answer.
 //
 // The lower part, `RecordKind`, has the numbers, their types, the condition and the order; the
-// upper part, `LineKind`, adds the word and the kind's number, for lines and sheets. A row is plain:
-// nothing in its type keeps the condition.
+// upper part, `LineKind`, adds the word. A row is plain: nothing in its type keeps the condition.
+// Above both, `SheetKind` adds what a sheet wants.
 ghost use Rattle.std.specs.Prelude.{◌≡◌, List, length, ℤ};
 ghost use Rattle.records.specs.Kind.{Kind, Lawful, ordering};
 ghost use Rattle.records.specs.Line.{read_behind};
@@ -39,18 +39,21 @@ pub trait RecordKind: Sized + Copy {
     ghost lawful: { Lawful means };
 
     ghost types: { Self.Run.Numbers.types ≡ means.types };
-
-    // a row has a number for each type
-    ghost shape: { (x : Self) → length (numbers x) ≡ length means.types };
 }
 
 pub trait LineKind: RecordKind {
+    fn word() -> &'static [u8]
+        ensures { result.now ≡ Self.RecordKind.means.word };
+}
+
+// A kind whose records stand on sheets.
+pub trait SheetKind: LineKind {
     // The kind's number on a sheet.
     fn number() -> u16
         ensures { result ≡ Self.RecordKind.means.number };
 
-    fn word() -> &'static [u8]
-        ensures { result.now ≡ Self.RecordKind.means.word };
+    // a row has a number for each type
+    ghost shape: { (x : Self) → length (Self.RecordKind.numbers x) ≡ length Self.RecordKind.means.types };
 }
 
 // What stands behind the word, as a row that meets the condition.

@@ -4,7 +4,7 @@
 // Both ways are total. A run that finds no room is not written at all, and of a payload that is
 // too short the missing bytes count as 0.
 ghost use Rattle.std.specs.Prelude.{◌≡◌, ◌+◌, ◌-◌, ◌%◌, ◌^◌, ◌≤◌, min, length};
-ghost use Rattle.std.specs.List.{AllByRecursion as All};
+ghost use Rattle.std.specs.List.{AllByRecursion};
 ghost use Rattle.words.specs.Bytes.{bytes_le};
 ghost use Rattle.records.specs.FieldType.{Regular};
 ghost use Rattle.records.specs.Payload.{code, decode, payload, payload_size, numbers_of, put, Written};
@@ -33,7 +33,7 @@ pub trait Payload: Numbers {
     // How many bytes it has, up to the greatest `usize`; no run of a lawful kind has so many.
     fn size() -> usize
         ensures value { result ≡ min (payload_size Self.Numbers.types) (2 ^ 64 - 1) }
-        ensures exact { All Regular Self.Numbers.types → length Self.Numbers.types ≤ 8 → result ≡ payload_size Self.Numbers.types };
+        ensures exact { AllByRecursion Regular Self.Numbers.types → length Self.Numbers.types ≤ 8 → result ≡ payload_size Self.Numbers.types };
 
     // Writes it at the place and answers the place behind it, or `None` where there is no room.
     fn write(&self, out: &mut [u8], at: usize) -> Option<usize>

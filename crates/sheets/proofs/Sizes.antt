@@ -1,13 +1,13 @@
 -- How many bytes records take.
 use Rattle.std.proofs.Common.{◌≡◌, ℕ, ◌+◌, ◌*◌, ◌/◌, ◌<◌, ◌≤◌, List, [], ◌∷◌, length, ap, mul-le-mul_right, mod-lt, add-mul, div-add-mod', arith}
-use Rattle.std.specs.List.{AllByRecursion as All}
+use Rattle.std.specs.List.{AllByRecursion}
 use Rattle.records.specs.FieldType.{FieldType, Regular}
 use Rattle.records.specs.Kind.{Kind, Lawful}
 use Rattle.records.specs.Payload.{payload_size}
 use Rattle.records.proofs.Payloads.{size_most}
 
 -- a byte for each type at least
-size_least : (ts : List FieldType) → All Regular ts → length ts ≤ payload_size ts
+size_least : (ts : List FieldType) → AllByRecursion Regular ts → length ts ≤ payload_size ts
 size_least [] rs = omega arith
 size_least (t ∷ ts) rs = let some = rs.0.some in omega (arith, size_least ts rs.1)
 

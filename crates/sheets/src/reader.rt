@@ -10,7 +10,7 @@ ghost use Rattle.sheets.specs.Refusals.{read_by};
 
 use crate::frame::{header_at, record_size};
 use crate::refusal::SheetRefusal;
-use records::kind::{LineKind, RecordKind, read_payload};
+use records::kind::{LineKind, RecordKind, SheetKind, read_payload};
 use records::line::Named;
 use records::tail;
 use std::marker::PhantomData;
@@ -49,7 +49,7 @@ fn read_records<K: LineKind>(bytes: &[u8], at: usize, n: usize) -> Result<usize,
 }
 
 // Checks the frame at the place, and answers how many records it has and the place behind it.
-fn read_frame<K: LineKind>(bytes: &[u8], at: usize) -> Result<(usize, usize), SheetRefusal>
+fn read_frame<K: SheetKind>(bytes: &[u8], at: usize) -> Result<(usize, usize), SheetRefusal>
     ensures { read_by (λ p. p) result ≡ mapped (λ xs. (length xs, behind bytes.now at)) (read_frame K.RecordKind.means bytes.now at) }
 {
     if bytes.len().saturating_sub(at) < 6 {
@@ -73,7 +73,7 @@ fn read_frame<K: LineKind>(bytes: &[u8], at: usize) -> Result<(usize, usize), Sh
 }
 
 // Checks a sheet whole, and answers how many records its sections have.
-pub fn read_sheet<A: LineKind, B: LineKind>(bytes: &[u8]) -> Result<(usize, usize), SheetRefusal>
+pub fn read_sheet<A: SheetKind, B: SheetKind>(bytes: &[u8]) -> Result<(usize, usize), SheetRefusal>
     ensures { read_by (λ p. p) result ≡ mapped counts (read_sheet A.RecordKind.means B.RecordKind.means bytes.now) }
 {
     let (m, middle) = read_frame::<A>(bytes, 0)?;
@@ -135,7 +135,7 @@ pub struct CheckedSheet<'a, A, B> {
     kinds: PhantomData<(A, B)>,
 }
 
-impl<'a, A: LineKind, B: LineKind> CheckedSheet<'a, A, B> {
+impl<'a, A: SheetKind, B: SheetKind> CheckedSheet<'a, A, B> {
     // Checks a sheet whole.
     pub fn read(bytes: &'a [u8]) -> Result<CheckedSheet<'a, A, B>, SheetRefusal>
         ensures { Checks A.RecordKind.means B.RecordKind.means bytes.now result }

@@ -6,7 +6,7 @@ ghost use Rattle.sheets.specs.Refusals.{wrote};
 
 use crate::frame::{record_size, write_header};
 use crate::refusal::TooShort;
-use records::kind::{LineKind, RecordKind, write_payload};
+use records::kind::{LineKind, RecordKind, SheetKind, write_payload};
 
 // How many bytes the frame of so many records has, up to the greatest `usize`.
 pub fn frame_size<K: RecordKind>(n: usize) -> usize
@@ -16,7 +16,7 @@ pub fn frame_size<K: RecordKind>(n: usize) -> usize
 }
 
 // Writes the payloads of the first `n` rows, one after another, from the place on.
-fn write_rows<K: LineKind>(rows: &[K], n: usize, out: &mut [u8], at: usize)
+fn write_rows<K: SheetKind>(rows: &[K], n: usize, out: &mut [u8], at: usize)
     requires rows { n ≤ length rows.now }
     requires room { at + n * payload_size K.RecordKind.means.types ≤ length out.old }
     ensures { out.new ≡ put out.old at (payloads K.RecordKind.means (map K.RecordKind.numbers (take n rows.now))) }
@@ -28,7 +28,7 @@ fn write_rows<K: LineKind>(rows: &[K], n: usize, out: &mut [u8], at: usize)
 }
 
 // Writes the frame of the first `n` rows from the place on.
-fn write_frame<K: LineKind>(rows: &[K], n: usize, out: &mut [u8], at: usize)
+fn write_frame<K: SheetKind>(rows: &[K], n: usize, out: &mut [u8], at: usize)
     requires rows { n ≤ length rows.now }
     requires room { at + 6 + n * payload_size K.RecordKind.means.types ≤ length out.old }
     ensures { out.new ≡ put out.old at (frame K.RecordKind.means (map K.RecordKind.numbers (take n rows.now))) }
@@ -40,7 +40,7 @@ fn write_frame<K: LineKind>(rows: &[K], n: usize, out: &mut [u8], at: usize)
 
 // Writes the sheet of the first `m` and `n` rows of two sections, as far as there are so many, into
 // the buffer's first bytes, and answers how many bytes it has.
-pub fn write_sheet<A: LineKind, B: LineKind>(
+pub fn write_sheet<A: SheetKind, B: SheetKind>(
     first: &[A],
     m: usize,
     second: &[B],

@@ -1,6 +1,6 @@
 -- A text has one output, with one history, and a sheet's lines say what is live.
 use Rattle.std.proofs.Common.{◌≡◌, ℕ, ◌≤◌, ◌↔◌, List, [], ◌++◌, length, sym, refl, ap, ◌∙◌, subst, ap₂, ⊎_elim, arith}
-use Rattle.std.specs.List.{AllByRecursion as All}
+use Rattle.std.specs.List.{AllByRecursion}
 use Rattle.std.proofs.lemmas.Bool.{cases_lt}
 use Rattle.records.specs.Kind.{Kind, Lawful}
 use Rattle.records.specs.Line.{Section, first, second}
@@ -20,10 +20,10 @@ use Rattle.station.proofs.TextsRun.{all_or_refused, never_all, first_refused_one
 
 -- ---- frames
 
-pub frames_bytes : (c : Layout) (h : History) (f g : List ℕ) → Frames c h f g → All Byte f × All Byte g
+pub frames_bytes : (c : Layout) (h : History) (f g : List ℕ) → Frames c h f g → AllByRecursion Byte f × AllByRecursion Byte g
 frames_bytes c h f g fr = (
-  subst (All Byte) (sym fr.first) (frame-bytes c.kind₁ fr.sheet.records₁),
-  subst (All Byte) (sym fr.second) (frame-bytes c.kind₂ fr.sheet.records₂),
+  subst (AllByRecursion Byte) (sym fr.first) (frame-bytes c.kind₁ fr.sheet.records₁),
+  subst (AllByRecursion Byte) (sym fr.second) (frame-bytes c.kind₂ fr.sheet.records₂),
 )
 
 module _ (a b : Kind) (la : Lawful a) (lb : Lawful b) where

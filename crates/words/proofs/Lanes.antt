@@ -2,7 +2,7 @@
 use Rattle.std.proofs.Common.{◌≡◌, ℕ, ◌+◌, ◌-◌, ◌*◌, ◌/◌, ◌%◌, ◌^◌, ◌<◌, ◌≤◌, List, [], ◌∷◌, sym, ap, ◌∙◌, subst, ap₂, mod-eq_of_lt, mul_assoc, add-mul, div-add-mod', mul-one, mul-add, mul_right_comm, arith, pow_pos, pow_mono, pow-add}
 use native.Mathlib.Nat.{mul-add-div_right, zero-mod}
 use lib.Bits.{bit_and, and_block, and_mask, and_mod, and_le_r, and_zero_r}
-use Rattle.std.specs.List.{AllByRecursion as All}
+use Rattle.std.specs.List.{AllByRecursion}
 use Rattle.std.proofs.lemmas.Nat.{field_of, div-mul-add, mod-mul-add, mul-add-lt}
 
 -- a product that wraps, shifted and masked: what is cut off is not looked at
@@ -75,7 +75,7 @@ mask B BB (p ∷ ps) = mask B BB ps * BB + (B - 1)
 
 -- each lane is below top
 abbrev pub Below : ℕ → List (ℕ × ℕ) → Type 0
-Below top = All (λ p. (p.0 < top) × (p.1 < top))
+Below top = AllByRecursion (λ p. (p.0 < top) × (p.1 < top))
 
 module _ (k c top : ℕ) (within : top ≤ 2 ^ k) (some : 0 < top) (fits : (a b : ℕ) → a < top → b < top → a * c + b < 2 ^ k) where
   -- also where there is no lane left

@@ -1,7 +1,7 @@
 -- A word put together by `|` from its bytes, or from parts of it that may overlap.
 use Rattle.std.proofs.Common.{◌≡◌, ℕ, zero, suc, ◌+◌, ◌*◌, ◌/◌, ◌%◌, ◌^◌, ◌<◌, ◌≤◌, List, [], ◌∷◌, length, get_or, take, drop, sym, refl, ap, ◌∙◌, ap₂, add-zero, zero-mul, mul-one, arith, w8, Fits}
 use lib.Bits.{bit_or, or_block, or_comm, or_self, or_zero_l, or_zero_r}
-use Rattle.std.specs.List.{AllByRecursion as All}
+use Rattle.std.specs.List.{AllByRecursion}
 use Rattle.std.proofs.lemmas.Nat.{shl_whole}
 use Rattle.std.proofs.ByRecursion.{All-drop, All-from_get_or, All-take}
 use Rattle.std.proofs.lemmas.List.{length-drop, length-take-le, take_all, take-take}
@@ -9,7 +9,7 @@ use Rattle.words.specs.Bytes.{word_le, bytes_le, front}
 use Rattle.words.proofs.Shifted.{shift_more}
 
 abbrev pub Bytes : List ℕ → Type 0
-Bytes = All (λ b. b < 256)
+Bytes = AllByRecursion (λ b. b < 256)
 
 pub bytes : (bs : List ℕ) → ((i : ℕ) → Fits w8 (get_or bs i 0)) → Bytes bs
 bytes bs h = All-from_get_or (λ b. b < 256) bs 0 (λ i in'. omega (arith, h i))

@@ -1,7 +1,8 @@
 // The types of 8, 16 and 32 bits.
 ghost use Rattle.std.specs.Prelude.{pos};
 ghost use Rattle.atoi_simd.specs.NumberType.{unsigned, signed, itself};
-ghost use Rattle.std.proofs.Common.{rules};
+ghost use Rattle.atoi_simd.specs.WholeTypes.{unsigned_whole, signed_whole};
+ghost use Rattle.std.proofs.Common.{lit≤};
 
 use super::{
     Number, Parse, ParseNeg, ParsePos, atoi_simd_parse_prefix_signed,
@@ -15,7 +16,7 @@ impl Number for u8 {
 
     ghost number = { pos };
 
-    ghost whole = { Prim.search rules };
+    ghost whole = { unsigned_whole 8 (lit≤ tt) };
 }
 
 impl ParsePos for u8 {
@@ -60,7 +61,7 @@ impl Number for i8 {
 
     ghost number = { itself };
 
-    ghost whole = { Prim.search rules };
+    ghost whole = { signed_whole 8 (lit≤ tt) };
 }
 
 impl ParsePos for i8 {
@@ -124,7 +125,7 @@ impl Number for u16 {
 
     ghost number = { pos };
 
-    ghost whole = { Prim.search rules };
+    ghost whole = { unsigned_whole 16 (lit≤ tt) };
 }
 
 impl ParsePos for u16 {
@@ -169,7 +170,7 @@ impl Number for i16 {
 
     ghost number = { itself };
 
-    ghost whole = { Prim.search rules };
+    ghost whole = { signed_whole 16 (lit≤ tt) };
 }
 
 impl ParsePos for i16 {
@@ -233,7 +234,7 @@ impl Number for u32 {
 
     ghost number = { pos };
 
-    ghost whole = { Prim.search rules };
+    ghost whole = { unsigned_whole 32 (lit≤ tt) };
 }
 
 impl ParsePos for u32 {
@@ -278,7 +279,7 @@ impl Number for i32 {
 
     ghost number = { itself };
 
-    ghost whole = { Prim.search rules };
+    ghost whole = { signed_whole 32 (lit≤ tt) };
 }
 
 impl ParsePos for i32 {

@@ -1,7 +1,8 @@
 // The types of 64 bits.
 ghost use Rattle.std.specs.Prelude.{pos};
 ghost use Rattle.atoi_simd.specs.NumberType.{unsigned, signed, itself};
-ghost use Rattle.std.proofs.Common.{rules};
+ghost use Rattle.atoi_simd.specs.WholeTypes.{unsigned_whole, signed_whole};
+ghost use Rattle.std.proofs.Common.{lit≤};
 
 use super::{
     Number, Parse, ParseNeg, ParsePos, atoi_simd_parse_prefix_signed,
@@ -31,7 +32,7 @@ impl Number for u64 {
 
     ghost number = { pos };
 
-    ghost whole = { Prim.search rules };
+    ghost whole = { unsigned_whole 64 (lit≤ tt) };
 }
 
 impl ParsePos for u64 {
@@ -70,7 +71,7 @@ impl Number for i64 {
 
     ghost number = { itself };
 
-    ghost whole = { Prim.search rules };
+    ghost whole = { signed_whole 64 (lit≤ tt) };
 }
 
 impl ParsePos for i64 {

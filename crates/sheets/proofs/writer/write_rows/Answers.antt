@@ -27,7 +27,7 @@ loop-i-preserved g c =
     let room = record_room c.args.at i c.args.n size (payload_size k.types) (length c.args.out.now) wide c.loop-i-test.true c.requires.room in
     let rows = c.requires.rows in
     let kept = c.loop-i.auto.out in
-    row_written k g.K.RecordKind.numbers g.met.K.RecordKind.shape c.args.rows.now c.args.out.now c.args.at i size x
+    row_written k g.K.RecordKind.numbers g.met.K.SheetKind.shape c.args.rows.now c.args.out.now c.args.at i size x
     c.loop-i.out c.write_payload.new.out (omega arith) (omega arith) c.index-rows-i.is wide c.loop-i.invariant
     (written_room (payload_size k.types) (payload k.types (g.K.RecordKind.numbers x)) c.loop-i.out (c.args.at + i * size)
     c.write_payload.result c.write_payload.new.out c.write_payload.ensures (omega arith))

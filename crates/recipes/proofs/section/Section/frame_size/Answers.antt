@@ -22,5 +22,5 @@ returns g c =
     let exact = counted s.count (length s.slots.now) size c.requires (size_few m.means g.met.R.RecordKind.lawful) in
     let few : s.count ≡ min s.count (length s.slots.now) = omega (arith, c.requires) in
     c.frame_size.ensures ∙ exact
-    ∙ sym (length_first m.means m.numbers g.met.R.RecordKind.shape s.count s.count s.slots.now few)
+    ∙ sym (length_first m.means m.numbers g.met.R.SheetKind.shape s.count s.count s.slots.now few)
     ∙ ap (λ xs. length (frame m.means xs)) (live_rows m.numbers s)
