@@ -64,7 +64,6 @@ impl<'a, R: RecordKind> Section<'a, R> {
         self.count = 0;
         n
     }
-
 }
 
 impl<'a, R: SheetKind> Section<'a, R> {
