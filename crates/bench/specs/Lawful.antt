@@ -1,4 +1,4 @@
--- The bench's kinds are lawful.
+-- The bench's kinds are lawful. These are proofs, which the kinds' impls cite.
 use Rattle.std.proofs.Common.{arith}
 use Rattle.records.specs.Kind.{Lawful}
 use Rattle.records.proofs.Lexicographic.{lex_irrefl, lex_trans, lex_total_records}

@@ -1,23 +1,22 @@
 -- How a text ends, from what its lines led to and what was written.
-use Rattle.std.proofs.Common.{◌≡◌, ℕ, ◌+◌, ◌-◌, ◌<◌, ◌≤◌, Bool, true, false, cond, ltb, List, [], ◌∷◌, ◌++◌, map, length, drop, ℤ, Ok, Err, Result, sym, refl, ap, ◌∙◌, subst, arith, length-append}
-use Rattle.std.proofs.lemmas.List.{length-map}
+use Rattle.std.proofs.Common.{◌≡◌, ℕ, ◌-◌, ◌<◌, ◌≤◌, Bool, true, false, cond, ltb, List, [], ◌++◌, map, length, drop, ℤ, Ok, Err, sym, refl, subst, arith, length-append}
 use Rattle.std.proofs.lemmas.Bool.{ltb-true, ltb-false}
 use Rattle.records.specs.Kind.{Kind, Lawful}
-use Rattle.records.specs.Outcome.{Refused, plain, Outcome, got, refused, refuse_if}
+use Rattle.records.specs.Outcome.{Refused, plain, got, refused, refuse_if}
 use Rattle.records.specs.Text.{lines_of}
-use Rattle.model.specs.History.{History, Layout, over}
+use Rattle.model.specs.History.{Layout, over}
 use Rattle.model.specs.Sheet.{frame, Writes}
-use Rattle.recipes.specs.Calls.{after_all, begun}
+use Rattle.recipes.specs.Calls.{after_all}
 use Rattle.recipes.specs.Reached.{Reached}
 use Rattle.recipes.specs.Rows.{seen, both, refused_of}
 use Rattle.recipes.specs.Slots.{live}
 use Rattle.recipes.specs.Taken.{Ran, stopped_by}
-use Rattle.recipes.specs.Texts.{entering, AllAccepted, Frames, Ending, sheet, stopped, short, Ends, written, refused_at, no_room, TakesText}
+use Rattle.recipes.specs.Texts.{entering, AllAccepted, Frames, Ending, sheet, short, Ends, written, refused_at, no_room, TakesText}
 use Rattle.recipes.specs.declared.section.Section.{Section as Rows}
 use Rattle.recipes.specs.declared.text.RefusedLine.{RefusedLine}
-use Rattle.recipes.proofs.Reaches.{reached_start, reached_all, seen_opened}
+use Rattle.recipes.proofs.Reaches.{reached_start, seen_opened}
 use Rattle.recipes.proofs.Taken.{taken_accepted, ran_refused}
-use Rattle.recipes.proofs.Written.{from_start, first_slots, second_slots, reached_from, frames_of}
+use Rattle.recipes.proofs.Written.{first_slots, second_slots, reached_from, frames_of}
 
 -- ---- what was written
 

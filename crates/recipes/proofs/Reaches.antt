@@ -1,11 +1,11 @@
 -- A call leads from sections that a history reached to those that the longer history reaches, and its answer is the one that the history defines.
-use Rattle.std.proofs.Common.{◌≡◌, ℕ, suc, ◌+◌, ◌-◌, ◌<◌, ◌≤◌, Bool, true, false, cond, not, ◌&&◌, ◌||◌, ◌≢◌, ◌⊎◌, ◌↔◌, List, [], ◌∷◌, ◌++◌, map, length, take, drop, ℤ, sym, refl, ap, ◌∙◌, subst, ap₂, ⊎_elim, arith}
-use Rattle.std.specs.List.{insert as inserted, remove, AllByRecursion}
+use Rattle.std.proofs.Common.{◌≡◌, ℕ, suc, ◌+◌, ◌-◌, ◌≤◌, Bool, true, false, cond, not, ◌&&◌, ◌||◌, ◌≢◌, ◌↔◌, List, [], ◌∷◌, ◌++◌, map, length, take, drop, ℤ, sym, refl, ap, ◌∙◌, subst, ap₂, arith}
+use Rattle.std.specs.List.{AllByRecursion}
 use Rattle.std.proofs.lemmas.List.{length-take-le, take_at, length-append, length-drop}
 use Rattle.std.proofs.lemmas.Bool.{both_ways, eqb-true, eqb-false}
 use Rattle.records.specs.Kind.{Kind, IsRecord, Lawful}
 use Rattle.records.specs.Line.{Section, first, second, InSection, read_line}
-use Rattle.records.specs.Outcome.{Refused, plain, Outcome, got, refused, refuse_if, and_then}
+use Rattle.records.specs.Outcome.{Refused, plain, Outcome, got, refused, refuse_if}
 use Rattle.model.specs.Answers.{Done, done, Count, EnterAnswers, StrikeAnswers, ClearAnswers}
 use Rattle.model.specs.History.{Call, enter, strike, clear, History, Layout, over, kind, provided, usable, reading, named, Holds, Listed, Live}
 use Rattle.model.proofs.LinesRead.{line_is}

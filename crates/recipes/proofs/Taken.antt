@@ -1,5 +1,5 @@
 -- Lines entered one after another: what they lead to, and that they are accepted in their history.
-use Rattle.std.proofs.Common.{◌≡◌, ℕ, suc, ◌+◌, Bool, true, false, cond, not, ◌&&◌, ◌||◌, ◌≢◌, List, [], ◌∷◌, ◌++◌, length, ℤ, Ok, Err, sym, refl, ap, ◌∙◌, subst, append_assoc, append-nil, arith, length-append}
+use Rattle.std.proofs.Common.{◌≡◌, ℕ, ◌+◌, Bool, true, false, cond, not, ◌&&◌, ◌||◌, ◌≢◌, List, [], ◌∷◌, ◌++◌, length, ℤ, Ok, Err, sym, refl, ap, ◌∙◌, subst, append_assoc, append-nil, arith, length-append}
 use Rattle.records.specs.Kind.{Kind, Lawful}
 use Rattle.records.specs.Line.{Section, first, second, InSection, read_line}
 use Rattle.records.specs.Outcome.{Refused, plain, Outcome, got, refused, refuse_if}

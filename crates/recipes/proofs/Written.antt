@@ -1,9 +1,9 @@
 -- What is written of two sections is the sheet of their history.
-use Rattle.std.proofs.Common.{◌≡◌, ℕ, ◌≤◌, List, [], ◌∷◌, ◌++◌, map, length, take, ℤ, sym, refl, ap, ◌∙◌, subst, ap₂}
+use Rattle.std.proofs.Common.{◌≡◌, ℕ, List, ◌++◌, map, length, take, ℤ, sym, refl, ap, ◌∙◌, subst}
 use Rattle.std.proofs.lemmas.List.{take-map}
 use Rattle.records.specs.Kind.{Kind, Lawful}
 use Rattle.records.specs.Outcome.{Outcome}
-use Rattle.model.specs.History.{History, Layout, over}
+use Rattle.model.specs.History.{History, over}
 use Rattle.model.specs.Sheet.{frame, Sheet, Writes}
 use Rattle.recipes.specs.Calls.{Sections, begun, after_all}
 use Rattle.recipes.specs.Reached.{Reached, WritesSheet}

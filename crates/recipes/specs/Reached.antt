@@ -1,10 +1,10 @@
 -- What it is for two sections to have had a history.
-use Rattle.std.specs.Prelude.{◌≡◌, ℕ, ◌≤◌, List, ◌∷◌, length, ℤ}
+use Rattle.std.specs.Prelude.{◌≡◌, ℕ, ◌≤◌, List, ◌∷◌, length}
 use Rattle.records.specs.Kind.{Kind}
 use Rattle.records.specs.Line.{Section, first, second}
 use Rattle.records.specs.Outcome.{Outcome}
 use Rattle.model.specs.Answers.{Done, EnterAnswers, StrikeAnswers, ClearAnswers}
-use Rattle.model.specs.History.{Call, enter, strike, clear, History, Layout, over, kind, provided, usable, Listed, Live}
+use Rattle.model.specs.History.{enter, strike, clear, History, Layout, over, kind, provided, usable, Listed, Live}
 use Rattle.model.specs.Sheet.{Sheet, Writes}
 use Rattle.recipes.specs.Calls.{Sections}
 use Rattle.recipes.specs.Slots.{State, live}

@@ -1,9 +1,9 @@
 -- What the code's sections, commands, answers and refusals mean.
-use Rattle.std.specs.Prelude.{◌≡◌, ℕ, ◌≤◌, List, [], ◌∷◌, map, length, ℤ, Ok, Err, Result}
+use Rattle.std.specs.Prelude.{◌≡◌, ◌≤◌, List, map, length, ℤ, Ok, Err, Result}
 use Rattle.records.specs.Meaning.{refused_of as lineRefused}
 use Rattle.records.specs.Outcome.{Refused, plain, Outcome, got, refused}
 use Rattle.model.specs.Answers.{Done}
-use Rattle.model.specs.History.{Call, enter, strike, clear, History, usable}
+use Rattle.model.specs.History.{usable}
 use Rattle.recipes.specs.Calls.{Sections}
 use Rattle.recipes.specs.Slots.{State}
 use Rattle.recipes.specs.declared.refusal.Counted.{Counted}

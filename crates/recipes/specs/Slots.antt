@@ -1,5 +1,5 @@
 -- What enter and strike do to one section's slots, whatever these hold. A row is spoken of by its numbers.
-use Rattle.std.specs.Prelude.{ℕ, ◌+◌, ◌-◌, Bool, true, false, cond, not, ◌&&◌, ◌||◌, List, [], ◌∷◌, ◌++◌, length, take, drop, ℤ, ◌==◌}
+use Rattle.std.specs.Prelude.{ℕ, ◌+◌, ◌-◌, Bool, false, cond, not, ◌&&◌, ◌||◌, List, [], ◌∷◌, ◌++◌, length, take, drop, ℤ, ◌==◌}
 use Rattle.std.specs.List.{insert, remove, prefix_len}
 use Rattle.std.specs.Ordering.{is_eq}
 use Rattle.records.specs.Kind.{Kind, ordering}

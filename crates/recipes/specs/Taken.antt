@@ -1,7 +1,7 @@
 -- What the code's endings of a text mean, and how far a run of lines went.
 use Rattle.std.specs.Prelude.{◌≡◌, ℕ, suc, ◌≢◌, List, [], ◌∷◌, ◌++◌, length, Ok, Err, Result}
 use Rattle.records.specs.Kind.{Kind}
-use Rattle.records.specs.Outcome.{Refused, got, refused}
+use Rattle.records.specs.Outcome.{got, refused}
 use Rattle.model.specs.Answers.{Done}
 use Rattle.model.specs.History.{enter}
 use Rattle.recipes.specs.Calls.{Sections, after, after_all, enter_answer}

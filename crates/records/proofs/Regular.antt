@@ -1,5 +1,5 @@
 -- The whole number types of 1 to 8 bytes are regular.
-use Rattle.std.proofs.Common.{◌≡◌, ℕ, zero, suc, ◌+◌, ◌-◌, ◌*◌, ◌/◌, ◌^◌, ◌<◌, ◌≤◌, Bool, true, false, sym, refl, ap, ◌∙◌, pow-suc, arith, pow_pos, pow-add}
+use Rattle.std.proofs.Common.{◌≡◌, ℕ, zero, suc, ◌+◌, ◌-◌, ◌*◌, ◌^◌, ◌≤◌, sym, refl, ap, ◌∙◌, pow-suc, arith, pow_pos, pow-add}
 use Rattle.atoi_simd.specs.WholeTypes.{unsigned_whole, signed_whole}
 use Rattle.records.specs.FieldType.{Regular, unsigned_of, signed_of}
 

@@ -1,6 +1,5 @@
 -- A text's output, from how the text ends.
-use Rattle.std.proofs.Common.{◌≡◌, ℕ, ◌+◌, ◌-◌, ◌*◌, ◌<◌, ◌≤◌, min, ◌⊎◌, List, [], ◌∷◌, ◌++◌, map, length, take, drop, ℤ, sym, refl, ap, ◌∙◌, subst, ap₂, inl, inr, ⊎_elim, append_assoc, arith}
-use Rattle.std.specs.List.{AllByRecursion}
+use Rattle.std.proofs.Common.{◌≡◌, ℕ, ◌+◌, ◌-◌, ◌*◌, ◌<◌, ◌≤◌, min, ◌⊎◌, List, [], ◌++◌, map, length, take, drop, ℤ, sym, refl, ap, ◌∙◌, subst, ap₂, inl, inr, ⊎_elim, append_assoc, arith}
 use Rattle.std.proofs.lemmas.List.{length-append, take_all, take_at, take-map, drop_all, drop_at, drop-drop, drop-map, map-append}
 use Rattle.std.proofs.lemmas.Bool.{cases_lt}
 use Rattle.words.proofs.Shifted.{length-bytes_le}
@@ -15,7 +14,6 @@ use Rattle.model.specs.Sheet.{frame, payloads}
 use Rattle.model.proofs.Live.{laws_over, listed_records, listed_unique, live_records}
 use Rattle.model.proofs.Payloads.{length-payloads}
 use Rattle.model.proofs.States.{state}
-use Rattle.recipes.specs.Calls.{after_all, begun}
 use Rattle.recipes.specs.Texts.{entering, AllAccepted, FirstRefused, Frames, Ending, sheet, stopped, short, Ends, written, refused_at, no_room, TakesText}
 use Rattle.bench.specs.Kinds.{step, limit}
 use Rattle.bench.specs.Lawful.{step_lawful, limit_lawful}

@@ -1,7 +1,7 @@
 -- Bytes put into a buffer: one or two, a text behind another, and what stands before a run.
-use Rattle.std.proofs.Common.{◌≡◌, ℕ, ◌+◌, ◌^◌, ◌<◌, ◌≤◌, List, [], ◌∷◌, ◌++◌, length, get_or, take, drop, set, decimal, sym, refl, ap, ◌∙◌, ap₂, append_assoc, arith}
+use Rattle.std.proofs.Common.{◌≡◌, ℕ, ◌+◌, ◌^◌, ◌<◌, ◌≤◌, List, [], ◌∷◌, ◌++◌, length, get_or, take, set, decimal, sym, refl, ap, ◌∙◌, ap₂, arith}
 use Rattle.std.proofs.lemmas.Fmt.{length-decimal-le}
-use Rattle.std.proofs.lemmas.List.{drop_at, drop-drop, get_or_append_left, get_or-take, length-append, length-take-le, take_at}
+use Rattle.std.proofs.lemmas.List.{get_or_append_left, get_or-take, length-append, length-take-le}
 use Rattle.records.specs.Payload.{put}
 use Rattle.records.proofs.Payloads.{put_none, put_more}
 use Rattle.sheets.proofs.Puts.{put_behind}

@@ -1,9 +1,9 @@
 -- What a sheet that was read hands out is the record that its definition says.
-use Rattle.std.proofs.Common.{◌≡◌, ℕ, ◌+◌, ◌*◌, Bool, true, false, cond, ◌&&◌, eqb, ltb, List, length, drop, ℤ, Some, None, Ok, Err, sym, refl, ap, ◌∙◌, ap₂, arith}
+use Rattle.std.proofs.Common.{◌≡◌, ℕ, ◌+◌, ◌*◌, Bool, true, false, cond, ◌&&◌, eqb, ltb, List, length, drop, ℤ, Some, None, Ok, sym, refl, ap, ◌∙◌, ap₂}
 use Rattle.std.proofs.lemmas.Bool.{and_parts, both_ways, eqb-true}
 use Rattle.records.specs.Kind.{Kind}
-use Rattle.records.specs.Line.{InSection, Section, first, second}
-use Rattle.records.specs.Outcome.{plain, Outcome, got, refused, refuse_if, and_then}
+use Rattle.records.specs.Line.{InSection, first, second}
+use Rattle.records.specs.Outcome.{plain, Outcome, got, refused, refuse_if}
 use Rattle.records.specs.Payload.{payload_size, numbers_of, record_of}
 use Rattle.model.specs.History.{named}
 use Rattle.model.specs.Reading.{Both, counts, read_sheet, record_at}

@@ -1,5 +1,5 @@
 -- The records of the bench that a sheet hands out.
-use Rattle.std.specs.Prelude.{ℕ, List, [], ◌∷◌, ℤ, pos}
+use Rattle.std.specs.Prelude.{ℕ, List, [], ◌∷◌, pos}
 use Rattle.records.specs.Line.{InSection, first, second}
 use Rattle.records.specs.Outcome.{Outcome, and_then}
 use Rattle.model.specs.Reading.{read_sheet, record_at}

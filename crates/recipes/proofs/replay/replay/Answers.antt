@@ -1,4 +1,4 @@
-use Rattle.std.proofs.Common.{◌≡◌, [], map, length, refl, ◌∙◌, arith, rules}
+use Rattle.std.proofs.Common.{[], length, refl, ◌∙◌, arith, rules}
 use Rattle.std.proofs.lemmas.List.{length-map}
 use Rattle.sheets.specs.Refusals.{wrote}
 use Rattle.model.proofs.Law.{sheets_identify_recipes}

@@ -1,4 +1,4 @@
-use Rattle.std.proofs.Common.{ℕ, List, ◌++◌, subst, ap₂}
+use Rattle.std.proofs.Common.{◌++◌, subst, ap₂}
 use Rattle.model.specs.Sheet.{frame, Writes}
 use Rattle.sheets.specs.Refusals.{wrote}
 use Rattle.recipes.proofs.Written.{live_rows}

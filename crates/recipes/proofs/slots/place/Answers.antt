@@ -1,4 +1,4 @@
-use Rattle.std.proofs.Common.{◌≡◌, sym, ap, ◌∙◌, arith}
+use Rattle.std.proofs.Common.{arith}
 use Rattle.recipes.proofs.Places.{place_next, place_here, place_end}
 use Rattle.recipes.proofs.slots.place.Goals as goal
 

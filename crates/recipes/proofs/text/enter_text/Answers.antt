@@ -1,4 +1,4 @@
-use Rattle.std.proofs.Common.{◌≡◌, ◌++◌, ◌∙◌, arith, length-append, rules}
+use Rattle.std.proofs.Common.{◌++◌, arith, length-append, rules}
 use Rattle.model.specs.Sheet.{frame}
 use Rattle.recipes.specs.Rows.{seen}
 use Rattle.recipes.specs.Slots.{live}

@@ -1,4 +1,4 @@
-use Rattle.std.proofs.Common.{◌≡◌, ℕ, List, map, refl, ap, ◌∙◌, ap₂, subst₂, arith}
+use Rattle.std.proofs.Common.{map, refl, subst₂, arith}
 use Rattle.bench.specs.Rows.{step_numbers, limit_numbers}
 use Rattle.station.specs.Output.{Gives}
 use Rattle.station.proofs.Given.{gives_within, used_numbers, rest_numbers}

@@ -1,10 +1,7 @@
-use Rattle.std.proofs.Common.{◌≡◌, [], map, length, sym, subst, ap₂}
+use Rattle.std.proofs.Common.{[], map, length, sym, subst}
 use Rattle.std.proofs.lemmas.List.{length-map}
 use Rattle.model.specs.History.{over}
-use Rattle.recipes.specs.Calls.{Sections}
 use Rattle.recipes.specs.Reached.{Reached}
-use Rattle.recipes.specs.Rows.{both}
-use Rattle.recipes.specs.Slots.{opened}
 use Rattle.recipes.proofs.Reaches.{reached_start, seen_opened}
 use Rattle.recipes.proofs.recipe.Recipe.open.Goals as goal
 

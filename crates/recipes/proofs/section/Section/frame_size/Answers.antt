@@ -1,4 +1,4 @@
-use Rattle.std.proofs.Common.{◌≡◌, ℕ, ◌+◌, ◌-◌, ◌*◌, ◌^◌, ◌≤◌, min, List, length, sym, ap, ◌∙◌, mul-le-mul, arith}
+use Rattle.std.proofs.Common.{◌≡◌, ℕ, ◌+◌, ◌-◌, ◌*◌, ◌^◌, ◌≤◌, min, length, sym, ap, ◌∙◌, mul-le-mul, arith}
 use Rattle.records.specs.Payload.{payload_size}
 use Rattle.model.specs.History.{usable}
 use Rattle.model.specs.Sheet.{frame}
