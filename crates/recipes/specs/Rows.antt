@@ -1,6 +1,6 @@
 -- What the code's sections, commands, answers and refusals mean.
 use Rattle.std.specs.Prelude.{◌≡◌, ◌≤◌, List, map, length, ℤ, Ok, Err, Result}
-use Rattle.records.specs.Meaning.{refused_of as lineRefused}
+use Rattle.records.specs.Meaning.{refused_of as line_refused}
 use Rattle.records.specs.Outcome.{Refused, plain, Outcome, got, refused}
 use Rattle.model.specs.Answers.{Done}
 use Rattle.model.specs.History.{usable}
@@ -28,7 +28,7 @@ SameSlots s t = s.slots.ghost_name ≡ t.slots.ghost_name
 
 -- a refusal's number, place and fault, case by case
 abbrev pub refused_of : RecipeRefusal → Refused
-refused_of (Line e) = lineRefused e
+refused_of (Line e) = line_refused e
 refused_of Full = plain 31 0
 refused_of NotLive = plain 32 0
 
