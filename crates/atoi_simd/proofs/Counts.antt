@@ -1,6 +1,7 @@
 -- How many digits the greatest number of 64 bits has.
-use Rattle.std.proofs.Common.{◌≡◌, ℕ, ◌-◌, ◌^◌, ◌<◌, ◌≤◌, leb, ◌⊎◌, inl, inr, ⊎_elim, arith}
+use Rattle.std.proofs.Common.{◌≡◌, ℕ, ◌+◌, ◌-◌, ◌*◌, ◌^◌, ◌<◌, ◌≤◌, leb, ◌⊎◌, inl, inr, ⊎_elim, arith, pow-add}
 use native.Mathlib.Nat.{pow-le-pow_right}
+use Rattle.std.proofs.lemmas.Nat.{mul-add-lt}
 use Rattle.std.proofs.lemmas.Bool.{cases_lt, cond-true, cond-false, le-leb, lt-leb}
 use Rattle.atoi_simd.specs.Calls.{digit_count}
 
@@ -30,3 +31,10 @@ count_over max n m h =
     (λ c. let d : 20 ≤ n = omega arith in let p : 10 ^ 20 ≤ 10 ^ n = pow-le-pow_right {n = 10} (omega arith) d in omega arith)
     (λ c. let d : 19 ≤ n = omega arith in let p : 10 ^ 19 ≤ 10 ^ n = pow-le-pow_right {n = 10} (omega arith) d in omega arith)
     (count_cases max)
+
+-- sixteen digits and n more that are fewer than the greatest number's
+pub joined_below : (max first more n : ℕ) → 2 ^ 63 - 1 ≤ max → first < 10 ^ 16 → more < 10 ^ n → n + 16 < digit_count max → first * 10 ^ n + more ≤ max
+joined_below max first more n m f w h =
+    let below : first * 10 ^ n + more < 10 ^ n * 10 ^ 16 = mul-add-lt first (10 ^ n) more (10 ^ 16) f w in
+    let all : 10 ^ (n + 16) ≡ 10 ^ n * 10 ^ 16 = pow-add 10 n 16 in
+    omega (arith, count_above max (n + 16) m h)

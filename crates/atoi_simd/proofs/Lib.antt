@@ -6,7 +6,6 @@ pub mod TwoWords
 pub mod Skipped
 pub mod Narrow
 pub mod Wide
-pub mod Negated
 pub mod Sound
 pub mod Signs
 pub mod Numerals

@@ -1,16 +1,15 @@
 -- A number behind its sign.
-use Rattle.std.proofs.Common.{◌≡◌, ℕ, ◌+◌, ◌-◌, ◌^◌, ◌<◌, ◌≤◌, Bool, true, false, ◌&&◌, eqb, List, [], ◌∷◌, length, get_or, take, drop, ℤ, IfOk, Ok, Err, Result, sym, refl, ap, ◌∙◌, subst, ap₂, arith, eq-eqb, ne_eqb}
+use Rattle.std.proofs.Common.{◌≡◌, ℕ, ◌+◌, ◌-◌, ◌^◌, ◌<◌, ◌≤◌, Bool, true, false, ◌&&◌, eqb, List, [], ◌∷◌, length, get_or, take, drop, ℤ, IfOk, Ok, Err, Result, sym, ap, ◌∙◌, subst, ap₂, arith, eq-eqb, ne_eqb}
 use Rattle.std.proofs.lemmas.List.{take_rest, length-drop}
 use Rattle.std.proofs.lemmas.Bool.{cond-true, cond-false, and_right}
 use Rattle.atoi_simd.specs.declared.error.AtoiSimdError.{AtoiSimdError}
-use Rattle.atoi_simd.specs.declared.error.AtoiSimdError.TheVariants.{Empty, Size, Overflow, Invalid64}
-use Rattle.atoi_simd.specs.Answer.{Answer, ok, fault_of, checked_by, prefix_by}
+use Rattle.atoi_simd.specs.Answer.{Answer, prefix_by}
 use Rattle.atoi_simd.specs.Calls.{Extent, front, unsigned_call, signed_call, after_sign}
 use Rattle.atoi_simd.specs.NumberType.{NumberType, takes_minus}
 use Rattle.atoi_simd.proofs.Sound.{Within, unsigned_within}
 
 -- what stands behind the first byte, as a slice pattern binds it
-abbrev pub behind : List ℕ → List ℕ
+abbrev behind : List ℕ → List ℕ
 behind bs = take (length bs - 1) (drop 1 bs)
 
 module _ (e : Extent) (t : NumberType) (skip plus : Bool) where
@@ -28,21 +27,6 @@ module _ (e : Extent) (t : NumberType) (skip plus : Bool) where
       ap after_sign (is ∙ ap (unsigned_call e t true skip) (take_rest (b ∷ bs) 1))
       ∙ sym (cond-false (plus && eqb b 43) _ _ (and_right plus (eqb b 43) (ne_eqb b 43 (λ q. omega arith)))
       ∙ cond-true (takes_minus t && eqb b 45) _ _ (ap₂ ◌&&◌ m (eq-eqb b 45 f)))
-
--- a fault says nothing of the sign
-fault_same : (e : AtoiSimdError) → fault_of e ≡ after_sign (fault_of e)
-fault_same Empty = refl
-fault_same (Size n p) = refl
-fault_same (Overflow p) = refl
-fault_same (Invalid64 v n p) = refl
-
--- a checked call behind the sign has read all of the text with it
-pub checked_after : {V : Type 0} (number : V → ℤ) (bs : List ℕ) (r : Result V AtoiSimdError) → 0 < length bs →
-    checked_by number (length bs) r ≡ after_sign (checked_by number (length (behind bs)) r)
-checked_after number bs (Ok v) h =
-    let l : length (behind bs) ≡ length bs - 1 = ap length (take_rest bs 1) ∙ length-drop 1 bs in
-    ap (ok (number v)) (omega arith)
-checked_after number bs (Err e) h = fault_same e
 
 -- the count with the sign is a count of bytes that are there
 pub room : {V : Type 0} (number : V → ℤ) (t : NumberType) (neg skip : Bool) (bs : List ℕ) (r : Result (V × ℕ) AtoiSimdError) → 0 < length bs → length bs < 2 ^ 64 →

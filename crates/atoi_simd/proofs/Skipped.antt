@@ -16,13 +16,6 @@ add_to k (size n p) = size (n + k) p
 add_to k (overflow p) = overflow p
 add_to k (invalid v n p) = invalid v n p
 
-add_none : (a : Answer) → add_to 0 a ≡ a
-add_none (ok v n) = ap (ok v) (omega arith)
-add_none empty = refl
-add_none (size n p) = ap (λ m. size m p) (omega arith)
-add_none (overflow p) = refl
-add_none (invalid v n p) = refl
-
 add_add : (a : Answer) (j k : ℕ) → add_to k (add_to j a) ≡ add_to (k + j) a
 add_add (ok v n) j k = ap (ok v) (omega arith)
 add_add empty j k = refl
@@ -41,9 +34,6 @@ pub record Skipped (answer : List ℕ → Answer) (skip : Bool) (bs rest : List 
   pub none : skip ≡ false → k ≡ 0
   pub digits : 0 < k → 0 < run bs
   pub same : add_to k (answer rest) ≡ answer bs
-
-pub start : (answer : List ℕ → Answer) (skip : Bool) (bs : List ℕ) → Skipped answer skip bs bs 0
-start answer skip bs = record { within = omega arith; split = refl; none = λ e. refl; digits = λ h. absurd (omega arith); same = add_none (answer bs) }
 
 module _ {answer : List ℕ → Answer} {skip : Bool} {bs rest : List ℕ} {k : ℕ} (s : Skipped answer skip bs rest k) where
   -- where nothing was skipped, all is left

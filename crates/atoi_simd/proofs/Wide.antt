@@ -1,13 +1,12 @@
 -- The steps of the reader of 64 bits.
-use Rattle.std.proofs.Common.{◌≡◌, ℕ, ◌+◌, ◌-◌, ◌*◌, ◌/◌, ◌%◌, ◌^◌, ◌<◌, ◌≤◌, min, Bool, true, false, cond, ◌&&◌, eqb, ltb, leb, List, length, take, drop, pos, sym, refl, ap, ◌∙◌, subst, ap₂, ⊎_elim, mul-le-mul_right, mod-lt, add-mul, div-add-mod', zero-add, arith, eq-eqb, ne_eqb, eqb-true, le-leb}
-use native.Mathlib.Nat.{pow-le-pow_right}
-use borrow.Author.Tests.{lt-leb, eqb-false, lt-true, le-false}
+use Rattle.std.proofs.Common.{◌≡◌, ℕ, ◌+◌, ◌-◌, ◌*◌, ◌^◌, ◌<◌, ◌≤◌, min, Bool, true, false, cond, ◌&&◌, eqb, leb, List, length, take, drop, pos, sym, refl, ap, ◌∙◌, subst, ap₂, ⊎_elim, zero-add, arith, eq-eqb, ne_eqb, eqb-true, le-leb}
+use borrow.Author.Tests.{lt-leb, eqb-false}
 use Rattle.std.specs.Char.{is_ascii_digit}
 use Rattle.std.proofs.lemmas.List.{drop-drop, take_rest}
 use Rattle.std.proofs.lemmas.List.Sums.{prefix_len-le-length}
 use Rattle.std.proofs.lemmas.Bool.{cond-true, cond-false, cases_eq, cases_lt, cases_Bool, both_ways}
 use Rattle.words.specs.Bytes.{is_zero, value_of}
-use Rattle.atoi_simd.specs.Answer.{Answer, ok, empty, size, overflow}
+use Rattle.atoi_simd.specs.Answer.{Answer, ok, size, overflow}
 use Rattle.atoi_simd.specs.Block.{fault, some, block}
 use Rattle.atoi_simd.specs.Digits.{run, zeros, value}
 use Rattle.atoi_simd.specs.Calls.{any_length, digit_count, wide_after, wide}
@@ -15,7 +14,7 @@ use Rattle.atoi_simd.proofs.Runs.{prefix_len-drop, value_split, value_below, val
 use Rattle.atoi_simd.proofs.Blocks.{Read, read, unread, zeros_counted}
 use Rattle.atoi_simd.proofs.ByteWise.{any_empty, any_ok}
 use Rattle.atoi_simd.proofs.Counts.{count_above, count_least, count_most}
-use Rattle.atoi_simd.proofs.Skipped.{Skipped, add_to, by_skip, all_left, some_digits, answers, next}
+use Rattle.atoi_simd.proofs.Skipped.{Skipped, add_to, by_skip, some_digits, answers, next}
 
 -- what a text with a digit is answered
 unfoldable pub wide_body : ℕ → Bool → List ℕ → Answer
@@ -79,30 +78,6 @@ short_is_wide max skip bs m h = ⊎_elim
     any_ok max bs (omega arith) (omega (arith, count_above max (run bs) m few)) ∙ sym (fits_below max skip bs (run bs) m refl few) ∙ wide_is max skip bs (omega arith))
     (cases_eq (run bs) 0)
 
--- ---- the test for an overflow
-module _ (val shift more max : ℕ) (small : more < shift) where
-  split : max / shift * shift + max % shift ≡ max
-  split = div-add-mod' max shift
-
-  above : max / shift < val → max < val * shift + more
-  above h =
-      let a : (max / shift + 1) * shift ≤ val * shift = mul-le-mul_right shift (omega arith) in
-      let b : (max / shift + 1) * shift ≡ max / shift * shift + 1 * shift = add-mul (max / shift) 1 shift in
-      let c : max % shift < shift = mod-lt max (omega arith) in
-      omega (arith, split)
-
-  below : val < max / shift → val * shift + more ≤ max
-  below h =
-      let a : (val + 1) * shift ≤ max / shift * shift = mul-le-mul_right shift (omega arith) in
-      let b : (val + 1) * shift ≡ val * shift + 1 * shift = add-mul val 1 shift in
-      omega (arith, split)
-
-  pub over_above : max / shift < val → true ≡ ltb max (val * shift + more)
-  over_above h = lt-true max (val * shift + more) (above h)
-
-  pub over_below : val < max / shift → false ≡ ltb max (val * shift + more)
-  over_below h = le-false max (val * shift + more) (below h)
-
 -- ---- what stands behind the first sixteen bytes, as a part of the text
 
 abbrev behind : List ℕ → List ℕ
@@ -127,9 +102,6 @@ module _ (max : ℕ) {skip : Bool} {bs rest : List ℕ} {k : ℕ} (s : Skipped (
       let v : value rest ≡ 0 = ap (λ j. value_of j rest) r in
       let o : wide_body max skip rest ≡ ok (pos 0) 0 = after_ok max (cond skip (zeros rest) 0) rest (omega arith) (omega arith) ∙ ap₂ (λ x j. ok (pos x) j) v r in
       ap (ok (pos 0)) (sym (zero-add k)) ∙ answers s (ok (pos 0) 0) o ∙ wide_is max skip bs (s.digits h)
-
-  pub no_digits : k ≡ 0 → min 16 (run rest) ≡ 0 → empty ≡ wide max skip bs
-  no_digits h e = sym (cond-true (eqb (run bs) 0) _ _ (eq-eqb (run bs) 0 (omega (arith, ap run (all_left s h)))))
 
   module _ (m : 2 ^ 63 - 1 ≤ max) where
     -- n digits that are fewer than the greatest number's
@@ -161,17 +133,8 @@ module _ (max : ℕ) {skip : Bool} {bs rest : List ℕ} {k : ℕ} (s : Skipped (
         rest_run : run (drop 16 rest) ≡ run rest - 16
         rest_run = prefix_len-drop is_ascii_digit 16 rest long.0
 
-        pub zeros_most : y ≤ 8
-        zeros_most = ⊎_elim
-            (λ t. omega (arith, q.zs ∙ cond-true (skip && eqb l 8) _ _ t))
-            (λ t. omega (arith, q.zs ∙ cond-false (skip && eqb l 8) _ _ t))
-            (cases_Bool (skip && eqb l 8))
-
         pub rest_low : w < 10 ^ l
         rest_low = let e : l ≤ run (drop 16 rest) = omega (arith, q.len) in subst (λ x. x < 10 ^ l) (sym q.val) (value_below l (drop 16 rest) e)
-
-        pub power : 10 ^ l ≤ 10 ^ 8
-        power = let a : l ≤ 8 = omega (arith, q.len) in pow-le-pow_right {n = 10} (omega arith) a
 
         -- more digits than the greatest number has
         pub too_long : (lm : ℕ) → lm + 16 ≡ digit_count max → lm < l → (skip ≡ true → z ≡ 0) → size (l + 16 + k) rest ≡ wide max skip bs
@@ -216,11 +179,6 @@ module _ (max : ℕ) {skip : Bool} {bs rest : List ℕ} {k : ℕ} (s : Skipped (
 
           inside : run rest - cond skip (zeros rest) 0 ≤ digit_count max
           inside = let t = total in omega arith
-
-          pub under : l < lm → v * 10 ^ l + w ≤ max
-          under g =
-              let b' : value rest < 10 ^ (16 + l) = subst (λ j. value_of j rest < 10 ^ (16 + l)) (sym total) (value_below (16 + l) rest (omega (arith, total))) in
-              omega (arith, joined, count_above max (16 + l) m (omega arith))
 
           pub reads : v * 10 ^ l + w ≤ max → ok (pos (v * 10 ^ l + w)) (l + 16 + k) ≡ wide max skip bs
           unfolding wide_body

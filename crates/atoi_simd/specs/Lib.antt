@@ -6,3 +6,4 @@ pub mod Numeral
 pub mod Worked
 pub mod Block
 pub mod WholeTypes
+pub mod Limits

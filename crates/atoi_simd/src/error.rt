@@ -14,6 +14,7 @@ pub enum AtoiSimdError<'a> {
 }
 
 // The first bytes of a part, as many as a message shows, in hexadecimal: `[31, 3B]`.
+// `{:X?}` would print the slice so, but a hole does not take it yet.
 #[derive(Clone, Copy)]
 struct Shown<'a>(&'a [u8]);
 

@@ -2,14 +2,15 @@
 //
 // A text is read in words of eight bytes; see the crate `words` for what is done with one.
 // Where zeros are skipped, a loop leaves out zeros as long as only zeros would fill the words.
-ghost use Rattle.std.specs.Prelude.{◌≡◌, ◌+◌, ◌-◌, ◌*◌, ◌^◌, ◌<◌, ◌≤◌, length, ℤ, pos, neg_ℤ, ◌≤ℤ◌, IfOk, if◌then◌else◌, nat_eq, nat_lt, slice_index, unsigned_abs};
+ghost use Rattle.std.specs.Prelude.{◌≡◌, ◌+◌, ◌^◌, ◌<◌, ◌≤◌, length, pos, neg_ℤ, ◌≤ℤ◌, IfOk, if◌then◌else◌, nat_eq, slice_index};
 ghost use Rattle.std.specs.Char.{is_ascii_digit};
 ghost use Rattle.atoi_simd.specs.Answer.{prefix_by, checked_by};
 ghost use Rattle.atoi_simd.specs.Block.{block_of_8, block_of_16, block};
-ghost use Rattle.atoi_simd.specs.Calls.{narrow, wide, digit_count, to_end, any_length, negated};
+ghost use Rattle.atoi_simd.specs.Calls.{narrow, wide, to_end, any_length, negated};
 ghost use Rattle.atoi_simd.specs.NumberType.{itself};
 
 use crate::error::AtoiSimdError;
+use crate::limit::{NarrowLimit, WideLimit};
 use crate::short::parse_short_pos;
 use words::{check_len_8, len_zeroes, len_zeroes_16, load_8, process_8, process_16};
 
@@ -17,6 +18,7 @@ use words::{check_len_8, len_zeroes, len_zeroes_16, load_8, process_8, process_1
 const SHORT: usize = 5;
 
 // What is read from the front of a text: `Ok` where more digits may follow, `Ret` where none do.
+// The type and its name are the ported crate's.
 #[derive(Clone, Copy)]
 pub(crate) enum EarlyReturn<T, E> {
     Ok(T),
@@ -25,7 +27,7 @@ pub(crate) enum EarlyReturn<T, E> {
 }
 
 // Up to eight digits: their value, how many there are, and, where they are eight and it is
-// asked, how many of them are leading zeros.
+// asked, how many of them are leading zeros. `count_zeroes` is the call's own `skip_zeroes`.
 fn parse_8(s: &[u8], count_zeroes: bool) -> Result<(u64, u32, u32), AtoiSimdError<'_>>
     ensures { block_of_8 result ≡ block 8 count_zeroes s.now }
 {
@@ -73,21 +75,17 @@ fn parse_16_by_8(s: &[u8], count_zeroes: bool) -> EarlyReturn<(u64, u32, u32), A
 fn goes_on(s: &[u8]) -> bool
     ensures { result ≡ is_ascii_digit (slice_index s.now 16) }
 {
-    match s.get(16) {
-        Some(c) => c.is_ascii_digit(),
-        None => false,
-    }
+    s.get(16).is_some_and(|c| c.is_ascii_digit())
 }
 
-// The number of 8 to 32 bits at the front, of at most `max`.
+// The number of 8 to 32 bits at the front, within `limit`.
 pub(crate) fn parse_fb_pos(
     s: &[u8],
-    max: u64,
+    limit: NarrowLimit,
     skip_zeroes: bool,
 ) -> Result<(u64, usize), AtoiSimdError<'_>>
-    requires { max < 2 ^ 32 }
-    ensures value { prefix_by pos result ≡ narrow max skip_zeroes s.now }
-    ensures fits { IfOk result (λ p. p.0 ≤ max) }
+    ensures value { prefix_by pos result ≡ narrow limit.max skip_zeroes s.now }
+    ensures fits { IfOk result (λ p. p.0 ≤ limit.max) }
 {
     let mut rest = s;
     let mut skipped = 0;
@@ -111,7 +109,7 @@ pub(crate) fn parse_fb_pos(
             EarlyReturn::Ret((v, l, _)) => break (v, l),
         }
     };
-    if val > max {
+    if val > limit.max {
         return Err(AtoiSimdError::Overflow(rest));
     }
     if len == 16 && goes_on(rest) {
@@ -125,60 +123,20 @@ fn negative(val: u64) -> i64
     requires { val ≤ 2 ^ 63 }
     ensures { result ≡ neg_ℤ (pos val) }
 {
-    if val > i64::MAX as u64 {
-        return i64::MIN;
-    }
-    -(val as i64)
+    val.wrapping_neg().cast_signed()
 }
 
-// The number of 8 to 32 bits at the front, its value negated, down to `min`.
+// The number of 8 to 32 bits at the front, its value negated.
 pub(crate) fn parse_fb_neg(
     s: &[u8],
-    min: i64,
+    limit: NarrowLimit,
     skip_zeroes: bool,
 ) -> Result<(i64, usize), AtoiSimdError<'_>>
-    requires low { unsigned_abs min < 2 ^ 32 }
-    requires negative { min ≤ℤ pos 0 }
-    ensures value { prefix_by itself result ≡ negated (narrow (unsigned_abs min) skip_zeroes s.now) }
-    ensures fits { IfOk result (λ p. (min ≤ℤ p.0) × (p.0 ≤ℤ pos 0)) }
+    ensures value { prefix_by itself result ≡ negated (narrow limit.max skip_zeroes s.now) }
+    ensures fits { IfOk result (λ p. (neg_ℤ (pos limit.max) ≤ℤ p.0) × (p.0 ≤ℤ pos 0)) }
 {
-    let most = min.unsigned_abs();
-    let mut rest = s;
-    let mut skipped = 0;
-    let (val, len) = loop {
-        match parse_16_by_8(rest, skip_zeroes) {
-            EarlyReturn::Ok((v, l, zeroes)) => {
-                if skip_zeroes && zeroes > 0 {
-                    skipped += zeroes as usize;
-                    rest = &rest[zeroes as usize..];
-                    continue;
-                }
-                break (v, l);
-            }
-            EarlyReturn::Err(e) => {
-                if skipped > 0 {
-                    return Ok((0, skipped));
-                }
-                return Err(e);
-            }
-            EarlyReturn::Ret((v, l, _)) => break (v, l),
-        }
-    };
-    if val > most {
-        return Err(AtoiSimdError::Overflow(rest));
-    }
-    if len == 16 && goes_on(rest) {
-        return Err(AtoiSimdError::Size(17, rest));
-    }
-    Ok((negative(val), len as usize + skipped))
-}
-
-// Whether `val * shift + more` is above `max`, without computing it.
-fn overflows(val: u64, shift: u64, more: u64, max: u64) -> bool
-    requires { more < shift }
-    ensures { result ≡ nat_lt max (val * shift + more) }
-{
-    val >= max / shift && (val > max / shift || more > max % shift)
+    let (val, len) = parse_fb_pos(s, limit, skip_zeroes)?;
+    Ok((negative(val), len))
 }
 
 // How many zeros lead twenty-four bytes, from those of the first sixteen and of the last eight.
@@ -194,18 +152,14 @@ fn zeroes_of_24(zeroes: u32, zeroes_more: u32) -> u32
     }
 }
 
-// The number of 64 bits at the front, of at most `max`, which has `len_more` digits after its
-// first sixteen.
+// The number of 64 bits at the front, within `limit`.
 pub(crate) fn parse_fb_64_pos(
     s: &[u8],
-    max: u64,
-    len_more: u32,
+    limit: WideLimit,
     skip_zeroes: bool,
 ) -> Result<(u64, usize), AtoiSimdError<'_>>
-    requires wide { 2 ^ 63 - 1 ≤ max }
-    requires digits { len_more + 16 ≡ digit_count max }
-    ensures value { prefix_by pos result ≡ wide max skip_zeroes s.now }
-    ensures fits { IfOk result (λ p. p.0 ≤ max) }
+    ensures value { prefix_by pos result ≡ wide limit.max skip_zeroes s.now }
+    ensures fits { IfOk result (λ p. p.0 ≤ limit.max) }
 {
     let mut rest = s;
     let mut skipped = 0;
@@ -225,7 +179,7 @@ pub(crate) fn parse_fb_64_pos(
             Ok(v) => v,
             Err(_) => return Ok((val, 16 + skipped)),
         };
-        if len > len_more {
+        if len > limit.len_more {
             if skip_zeroes && zeroes > 0 {
                 let zeroes = zeroes_of_24(zeroes, zeroes_more);
                 skipped += zeroes as usize;
@@ -234,11 +188,11 @@ pub(crate) fn parse_fb_64_pos(
             }
             return Err(AtoiSimdError::Size(len as usize + 16 + skipped, rest));
         }
-        let shift = 10_u64.pow(len);
-        if len == len_more && overflows(val, shift, more, max) {
-            return Err(AtoiSimdError::Overflow(rest));
-        }
-        return Ok((val * shift + more, len as usize + 16 + skipped));
+        // a `match`, since both of its arms need what stands around them
+        return match limit.joined(val, more, len) {
+            Some(value) => Ok((value, len as usize + 16 + skipped)),
+            None => Err(AtoiSimdError::Overflow(rest)),
+        };
     }
 }
 
@@ -249,81 +203,71 @@ pub(crate) fn parse_fb_64_neg(
 ) -> Result<(i64, usize), AtoiSimdError<'_>>
     ensures { prefix_by itself result ≡ negated (wide (2 ^ 63) skip_zeroes s.now) }
 {
-    match parse_fb_64_pos(s, i64::MAX as u64 + 1, 3, skip_zeroes) {
-        Ok((val, len)) => Ok((negative(val), len)),
-        Err(e) => Err(e),
-    }
+    let (val, len) = parse_fb_64_pos(s, WideLimit::LEAST_I64, skip_zeroes)?;
+    Ok((negative(val), len))
 }
 
-// All of the text as a number of 8 to 32 bits, of at most `max`.
-pub(crate) fn parse_fb_checked_pos(s: &[u8], max: u64) -> Result<u64, AtoiSimdError<'_>>
-    requires { 9 ≤ max }
-    ensures value { checked_by pos (length s.now) result ≡ to_end s.now (any_length max s.now) }
-    ensures fits { IfOk result (λ v. v ≤ max) }
+// A number that was read at the front of the text, where it has to be all of it.
+fn to_end<'a>(
+    s: &'a [u8],
+    read: Result<(u64, usize), AtoiSimdError<'a>>,
+) -> Result<u64, AtoiSimdError<'a>>
+    ensures value { checked_by pos (length s.now) result ≡ to_end s.now (prefix_by pos read.entry) }
+    ensures same { IfOk result (λ v. IfOk read.entry (λ p. v ≡ p.0)) }
 {
-    let (res, len) = parse_short_pos(s, max)?;
+    let (val, len) = read?;
     if len != s.len() {
-        return Err(AtoiSimdError::Invalid64(res, len, s));
+        return Err(AtoiSimdError::Invalid64(val, len, s));
     }
-    Ok(res)
+    Ok(val)
 }
 
-// All of the text as a number of 8 to 32 bits, its value negated, down to `min`.
-pub(crate) fn parse_fb_checked_neg(s: &[u8], min: i64) -> Result<i64, AtoiSimdError<'_>>
-    requires some { 9 ≤ unsigned_abs min }
-    requires negative { min ≤ℤ pos 0 }
-    ensures value { checked_by itself (length s.now) result ≡ negated (to_end s.now (any_length (unsigned_abs min) s.now)) }
-    ensures fits { IfOk result (λ v. (min ≤ℤ v) × (v ≤ℤ pos 0)) }
+// All of the text as a number of 8 to 32 bits, within `limit`.
+pub(crate) fn parse_fb_checked_pos(s: &[u8], limit: NarrowLimit) -> Result<u64, AtoiSimdError<'_>>
+    ensures value { checked_by pos (length s.now) result ≡ to_end s.now (any_length limit.max s.now) }
+    ensures fits { IfOk result (λ v. v ≤ limit.max) }
 {
-    match parse_fb_checked_pos(s, min.unsigned_abs()) {
-        Ok(val) => Ok(negative(val)),
-        Err(e) => Err(e),
-    }
+    to_end(s, parse_short_pos(s, limit.max))
+}
+
+// All of the text as a number of 8 to 32 bits, its value negated.
+pub(crate) fn parse_fb_checked_neg(s: &[u8], limit: NarrowLimit) -> Result<i64, AtoiSimdError<'_>>
+    ensures value { checked_by itself (length s.now) result ≡ negated (to_end s.now (any_length limit.max s.now)) }
+    ensures fits { IfOk result (λ v. (neg_ℤ (pos limit.max) ≤ℤ v) × (v ≤ℤ pos 0)) }
+{
+    Ok(negative(parse_fb_checked_pos(s, limit)?))
 }
 
 // The number of 64 bits at the front, a short text byte by byte.
 fn parse_short_or_fb_64_pos(
     s: &[u8],
-    max: u64,
-    len_more: u32,
+    limit: WideLimit,
     skip_zeroes: bool,
 ) -> Result<(u64, usize), AtoiSimdError<'_>>
-    requires wide { 2 ^ 63 - 1 ≤ max }
-    requires digits { len_more + 16 ≡ digit_count max }
-    ensures value { prefix_by pos result ≡ wide max skip_zeroes s.now }
-    ensures fits { IfOk result (λ p. p.0 ≤ max) }
+    ensures value { prefix_by pos result ≡ wide limit.max skip_zeroes s.now }
+    ensures fits { IfOk result (λ p. p.0 ≤ limit.max) }
 {
     if s.len() < SHORT {
-        return parse_short_pos(s, max);
+        return parse_short_pos(s, limit.max);
     }
-    parse_fb_64_pos(s, max, len_more, skip_zeroes)
+    parse_fb_64_pos(s, limit, skip_zeroes)
 }
 
-// All of the text as a number of 64 bits, of at most `max`.
+// All of the text as a number of 64 bits, within `limit`.
 pub(crate) fn parse_fb_checked_64_pos(
     s: &[u8],
-    max: u64,
-    len_more: u32,
+    limit: WideLimit,
     skip_zeroes: bool,
 ) -> Result<u64, AtoiSimdError<'_>>
-    requires wide { 2 ^ 63 - 1 ≤ max }
-    requires digits { len_more + 16 ≡ digit_count max }
-    ensures value { checked_by pos (length s.now) result ≡ to_end s.now (wide max skip_zeroes s.now) }
-    ensures fits { IfOk result (λ v. v ≤ max) }
+    ensures value { checked_by pos (length s.now) result ≡ to_end s.now (wide limit.max skip_zeroes s.now) }
+    ensures fits { IfOk result (λ v. v ≤ limit.max) }
 {
-    let (res, len) = parse_short_or_fb_64_pos(s, max, len_more, skip_zeroes)?;
-    if len != s.len() {
-        return Err(AtoiSimdError::Invalid64(res, len, s));
-    }
-    Ok(res)
+    to_end(s, parse_short_or_fb_64_pos(s, limit, skip_zeroes))
 }
 
 // All of the text as an i64, its value negated.
 pub(crate) fn parse_fb_checked_64_neg(s: &[u8], skip_zeroes: bool) -> Result<i64, AtoiSimdError<'_>>
     ensures { checked_by itself (length s.now) result ≡ negated (to_end s.now (wide (2 ^ 63) skip_zeroes s.now)) }
 {
-    match parse_fb_checked_64_pos(s, i64::MAX as u64 + 1, 3, skip_zeroes) {
-        Ok(val) => Ok(negative(val)),
-        Err(e) => Err(e),
-    }
+    Ok(negative(parse_fb_checked_64_pos(s, WideLimit::LEAST_I64, skip_zeroes)?))
 }

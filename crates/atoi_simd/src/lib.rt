@@ -5,6 +5,8 @@
 // and every number type. `parse` and `parse_prefix` take a sign, the other four take none. The
 // checked calls (`parse`, `parse_pos`, `parse_neg`) want all bytes to be digits; the prefix
 // calls stop behind the last digit and say how many bytes they have read.
+//
+// `skip_zeroes` and `skip_plus` are the ported crate's own arguments, which a caller may compute.
 #![tactic(auto)]
 
 ghost use Rattle.std.specs.Prelude.{◌≡◌, true, false, length};
@@ -15,6 +17,7 @@ ghost use Rattle.atoi_simd.specs.Worked.{WorkedCasesHold};
 
 pub mod error;
 mod fallback;
+mod limit;
 pub mod linker;
 mod short;
 

@@ -1,10 +1,11 @@
 -- A word put together by `|` from its bytes, or from parts of it that may overlap.
-use Rattle.std.proofs.Common.{◌≡◌, ℕ, zero, suc, ◌+◌, ◌*◌, ◌/◌, ◌%◌, ◌^◌, ◌<◌, ◌≤◌, List, [], ◌∷◌, length, get_or, take, drop, sym, refl, ap, ◌∙◌, ap₂, add-zero, zero-mul, mul-one, arith, w8, Fits}
-use lib.Bits.{bit_or, or_block, or_comm, or_self, or_zero_l, or_zero_r}
+use Rattle.std.proofs.Common.{◌≡◌, ℕ, zero, suc, ◌+◌, ◌-◌, ◌*◌, ◌/◌, ◌%◌, ◌^◌, ◌<◌, ◌≤◌, List, [], ◌∷◌, length, get_or, take, drop, sym, refl, ap, ◌∙◌, ap₂, add-zero, zero-mul, mul-one, arith, pow-suc, mul_assoc, w8, Fits}
+use lib.Bits.{bit_or, or_block, or_self, or_zero_l, or_zero_r}
+use Rattle.std.specs.Int.{byte_worth, sum_through}
 use Rattle.std.specs.List.{AllByRecursion}
 use Rattle.std.proofs.lemmas.Nat.{shl_whole}
-use Rattle.std.proofs.ByRecursion.{All-drop, All-from_get_or, All-take}
-use Rattle.std.proofs.lemmas.List.{length-drop, length-take-le, take_all, take-take}
+use Rattle.std.proofs.ByRecursion.{All-drop, All-from_get_or}
+use Rattle.std.proofs.lemmas.List.{length-drop, length-take-le, take_all, take_rest}
 use Rattle.words.specs.Bytes.{word_le, bytes_le, front}
 use Rattle.words.proofs.Shifted.{shift_more}
 
@@ -50,32 +51,27 @@ parts_shifted bs j m h short in' le =
     shl_whole (word_le high) (8 * length high) (8 * j) 64 (word_below high (All-drop (λ b. b < 256) j bs h)) (omega (arith, length-drop j bs)) in
     ap (λ w. bit_or w (word_le (take m bs))) whole ∙ parts bs j m h le
 
--- the bytes 0 to n of a text, each shifted to its place
-abbrev pub shifted : ℕ → List ℕ → ℕ
-shifted zero bs = get_or bs 0 0
-shifted (suc n) bs = bit_or (shifted n bs) (get_or bs (suc n) 0 * 2 ^ (8 * suc n) % 2 ^ 64)
-
--- the byte n stands last among the bytes 0 to n
-last : (n : ℕ) (bs : List ℕ) → n < length bs → drop n (take (suc n) bs) ≡ get_or bs n 0 ∷ []
-last n [] h = absurd (omega arith)
-last zero (b ∷ bs) h = refl
-last (suc n) (b ∷ bs) h = last n bs (omega arith)
-
--- together they are the word of these bytes
-pub shifted_word : (n : ℕ) (bs : List ℕ) → Bytes bs → n < length bs → n < 8 → shifted n bs ≡ word_le (take (suc n) bs)
+-- one more byte has the next place
+word_more : (n : ℕ) (bs : List ℕ) → n < length bs → word_le (take (suc n) bs) ≡ word_le (take n bs) + get_or bs n 0 * 256 ^ n
 unfolding word_le
-shifted_word n [] h in' few = absurd (omega arith)
-shifted_word zero (b ∷ bs) h in' few = sym (omega arith)
-shifted_word (suc n) (b ∷ bs) h in' few =
-    let all = b ∷ bs in
-    let t = take (suc (suc n)) all in
-    let high : word_le (drop (suc n) t) ≡ get_or all (suc n) 0 = ap word_le (last (suc n) all in') ∙ omega arith in
-    let low : word_le (take (suc n) t) ≡ shifted n all =
-    ap word_le (take-take (suc n) (suc (suc n)) all (omega arith)) ∙ sym (shifted_word n all h (omega arith) (omega arith)) in
-    let len : length t ≡ suc (suc n) = length-take-le (suc (suc n)) all in' in
-    or_comm (shifted n all) (get_or all (suc n) 0 * 2 ^ (8 * suc n) % 2 ^ 64)
-    ∙ ap₂ (λ x y. bit_or (x * 2 ^ (8 * suc n) % 2 ^ 64) y) (sym high) (sym low)
-    ∙ parts_shifted t (suc n) (suc n) (All-take (λ x. x < 256) (suc (suc n)) all h) (omega arith) (omega arith) (omega arith)
+word_more n [] h = absurd (omega arith)
+word_more zero (b ∷ bs) h = omega arith
+word_more (suc n) (b ∷ bs) h =
+    let g = get_or bs n 0 in
+    let place : g * 256 ^ suc n ≡ g * 256 ^ n * 256 = ap (λ m. g * m) (pow-suc 256 n) ∙ sym (mul_assoc g (256 ^ n) 256) in
+    omega (arith, word_more n bs (omega arith))
+
+-- the library's sum of the bytes 0 to n is their word
+pub word_sum : (n : ℕ) (bs : List ℕ) → n < length bs → sum_through (λ i. byte_worth i (get_or bs i 0)) n ≡ word_le (take (suc n) bs)
+unfolding word_le
+word_sum zero bs h = omega (arith, word_more 0 bs h)
+word_sum (suc n) bs h = omega (arith, word_sum n bs (omega arith), word_more (suc n) bs h)
+
+-- the number that `from_le_bytes` makes of the first n + 1 bytes
+pub word_of : (n : ℕ) (bs : List ℕ) → n < length bs → sum_through (λ i. byte_worth i (get_or (take (suc n) bs) i 0)) n ≡ word_le (take (suc n) bs)
+word_of n bs h =
+    let t = take (suc n) bs in
+    word_sum n t (omega (arith, length-take-le (suc n) bs h)) ∙ ap word_le (take_all (suc n) t (omega (arith, length-take-le (suc n) bs h)))
 
 padding : (n : ℕ) → bytes_le n 0 ≡ front n []
 unfolding bytes_le front
@@ -100,8 +96,8 @@ loaded bs w h short e = ap (bytes_le 8) (e ∙ ap word_le (sym (take_all 8 bs sh
 
 -- the same, where its last n bytes, which begin at j, are joined to the bytes before m
 pub loaded_parts : (bs : List ℕ) (j n m high low : ℕ) → Bytes bs → length bs ≡ j + n → j + n ≤ 8 → j ≤ m →
-    high ≡ word_le (take n (drop j bs)) → low ≡ word_le (take m bs) → bytes_le 8 (bit_or (high * 2 ^ (8 * j) % 2 ^ 64) low) ≡ front 8 bs
+    high ≡ word_le (take n (take (length bs - j) (drop j bs))) → low ≡ word_le (take m bs) → bytes_le 8 (bit_or (high * 2 ^ (8 * j) % 2 ^ 64) low) ≡ front 8 bs
 loaded_parts bs j n m high low h len short le is-high is-low =
-    let last-ones : take n (drop j bs) ≡ drop j bs = take_all n (drop j bs) (omega (arith, length-drop j bs)) in
+    let all : take n (take (length bs - j) (drop j bs)) ≡ drop j bs = ap (take n) (take_rest bs j) ∙ take_all n (drop j bs) (omega (arith, length-drop j bs)) in
     loaded bs _ h (omega arith)
-    (ap₂ (λ x y. bit_or (x * 2 ^ (8 * j) % 2 ^ 64) y) (is-high ∙ ap word_le last-ones) is-low ∙ parts_shifted bs j m h (omega arith) (omega arith) le)
+    (ap₂ (λ x y. bit_or (x * 2 ^ (8 * j) % 2 ^ 64) y) (is-high ∙ ap word_le all) is-low ∙ parts_shifted bs j m h (omega arith) (omega arith) le)

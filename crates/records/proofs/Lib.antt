@@ -1,7 +1,0 @@
-pub mod Lines
-pub mod Stretches
-pub mod Numbering
-pub mod Lexicographic
-pub mod Regular
-pub mod Payloads
-pub mod RoundTrip

@@ -1,4 +1,0 @@
-pub mod Output
-pub mod Identified
-pub mod Told
-pub mod Handed
