@@ -1,0 +1,16 @@
+pub mod Outcomes
+pub mod Orders
+pub mod Last
+pub mod Fitting
+pub mod Numerals
+pub mod LinesRead
+pub mod Live
+pub mod Steps
+pub mod States
+pub mod Answered
+pub mod Payloads
+pub mod Frames
+pub mod Sheets
+pub mod Spelled
+pub mod Entered
+pub mod Law

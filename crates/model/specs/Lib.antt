@@ -1,0 +1,5 @@
+pub mod History
+pub mod Answers
+pub mod Sheet
+pub mod Reading
+pub mod Law
