@@ -1,4 +1,5 @@
 // The faults of the number parser. Each carries the part of the caller's bytes that it speaks of.
+use std::error::Error;
 use std::fmt;
 
 #[derive(Debug, Clone, Copy, PartialEq, Eq)]
@@ -19,7 +20,7 @@ pub enum AtoiSimdError<'a> {
 struct Shown<'a>(&'a [u8]);
 
 impl fmt::Display for Shown<'_> {
-    fn fmt<W: fmt::Write>(&self, f: &mut fmt::Formatter<W>) -> Result<(), fmt::Error> {
+    fn fmt<W: fmt::Write>(&self, f: &mut fmt::Formatter<W>) -> fmt::Result {
         write!(f, "[")?;
         for (i, byte) in self.0.iter().take(48).enumerate() {
             if i > 0 {
@@ -32,7 +33,7 @@ impl fmt::Display for Shown<'_> {
 }
 
 impl fmt::Display for AtoiSimdError<'_> {
-    fn fmt<W: fmt::Write>(&self, f: &mut fmt::Formatter<W>) -> Result<(), fmt::Error> {
+    fn fmt<W: fmt::Write>(&self, f: &mut fmt::Formatter<W>) -> fmt::Result {
         match self {
             AtoiSimdError::Empty => write!(f, "atoi_simd string is empty"),
             AtoiSimdError::Size(len, input) => {
@@ -51,3 +52,5 @@ impl fmt::Display for AtoiSimdError<'_> {
         }
     }
 }
+
+impl Error for AtoiSimdError<'_> {}

@@ -2,6 +2,7 @@
 //
 // A text is read in words of eight bytes; see the crate `words` for what is done with one.
 // Where zeros are skipped, a loop leaves out zeros as long as only zeros would fill the words.
+// The readers are one for each sign and width, as in the ported crate, and have its names.
 ghost use Rattle.std.specs.Prelude.{◌≡◌, ◌+◌, ◌^◌, ◌<◌, ◌≤◌, length, pos, neg_ℤ, ◌≤ℤ◌, IfOk, if◌then◌else◌, nat_eq, slice_index};
 ghost use Rattle.std.specs.Char.{is_ascii_digit};
 ghost use Rattle.atoi_simd.specs.Answer.{prefix_by, checked_by};
@@ -188,11 +189,10 @@ pub(crate) fn parse_fb_64_pos(
             }
             return Err(AtoiSimdError::Size(len as usize + 16 + skipped, rest));
         }
-        // a `match`, since both of its arms need what stands around them
-        return match limit.joined(val, more, len) {
-            Some(value) => Ok((value, len as usize + 16 + skipped)),
-            None => Err(AtoiSimdError::Overflow(rest)),
-        };
+        let value = limit
+            .joined(val, more, len)
+            .ok_or(AtoiSimdError::Overflow(rest))?;
+        return Ok((value, len as usize + 16 + skipped));
     }
 }
 

@@ -6,7 +6,8 @@
 // checked calls (`parse`, `parse_pos`, `parse_neg`) want all bytes to be digits; the prefix
 // calls stop behind the last digit and say how many bytes they have read.
 //
-// `skip_zeroes` and `skip_plus` are the ported crate's own arguments, which a caller may compute.
+// `skip_zeroes` and `skip_plus` are const arguments in the ported crate. A trait's method takes none
+// here, so they are plain ones.
 #![tactic(auto)]
 
 ghost use Rattle.std.specs.Prelude.{◌≡◌, true, false, length};
@@ -29,22 +30,22 @@ pub use linker::{Number, Parse, ParseNeg, ParsePos};
 // With both skips on it takes exactly the texts that are an optional sign which the type takes,
 // then one or more digits and nothing else, and whose number is one of the type's.
 pub fn parse<T: Parse>(s: &[u8], skip_zeroes: bool, skip_plus: bool) -> Result<T, AtoiSimdError<'_>>
-    ensures value { checked_by T.Number.number (length s.now) result ≡ signed_call all T.Number.means skip_zeroes skip_plus s.now }
-    ensures numerals { skip_zeroes ≡ true → skip_plus ≡ true → TakesNumerals T.Number.means T.Number.number s.now result }
+    ensures value { checked_by T.number (length s.now) result ≡ signed_call all T.means skip_zeroes skip_plus s.now }
+    ensures numerals { skip_zeroes ≡ true → skip_plus ≡ true → TakesNumerals T.means T.number s.now result }
 {
     T::atoi_simd_parse(s, skip_zeroes, skip_plus)
 }
 
 // All of the text as a number, with no sign.
 pub fn parse_pos<T: ParsePos>(s: &[u8], skip_zeroes: bool) -> Result<T, AtoiSimdError<'_>>
-    ensures { checked_by T.Number.number (length s.now) result ≡ unsigned_call all T.Number.means false skip_zeroes s.now }
+    ensures { checked_by T.number (length s.now) result ≡ unsigned_call all T.means false skip_zeroes s.now }
 {
     T::atoi_simd_parse_pos(s, skip_zeroes)
 }
 
 // All of the text as a number, with no sign, its value negated.
 pub fn parse_neg<T: ParseNeg>(s: &[u8], skip_zeroes: bool) -> Result<T, AtoiSimdError<'_>>
-    ensures { checked_by T.Number.number (length s.now) result ≡ unsigned_call all T.Number.means true skip_zeroes s.now }
+    ensures { checked_by T.number (length s.now) result ≡ unsigned_call all T.means true skip_zeroes s.now }
 {
     T::atoi_simd_parse_neg(s, skip_zeroes)
 }
@@ -55,7 +56,7 @@ pub fn parse_prefix<T: Parse>(
     skip_zeroes: bool,
     skip_plus: bool,
 ) -> Result<(T, usize), AtoiSimdError<'_>>
-    ensures { prefix_by T.Number.number result ≡ signed_call front T.Number.means skip_zeroes skip_plus s.now }
+    ensures { prefix_by T.number result ≡ signed_call front T.means skip_zeroes skip_plus s.now }
 {
     T::atoi_simd_parse_prefix(s, skip_zeroes, skip_plus)
 }
@@ -65,7 +66,7 @@ pub fn parse_prefix_pos<T: ParsePos>(
     s: &[u8],
     skip_zeroes: bool,
 ) -> Result<(T, usize), AtoiSimdError<'_>>
-    ensures { prefix_by T.Number.number result ≡ unsigned_call front T.Number.means false skip_zeroes s.now }
+    ensures { prefix_by T.number result ≡ unsigned_call front T.means false skip_zeroes s.now }
 {
     T::atoi_simd_parse_prefix_pos(s, skip_zeroes)
 }
@@ -76,7 +77,7 @@ pub fn parse_prefix_neg<T: ParseNeg>(
     s: &[u8],
     skip_zeroes: bool,
 ) -> Result<(T, usize), AtoiSimdError<'_>>
-    ensures { prefix_by T.Number.number result ≡ unsigned_call front T.Number.means true skip_zeroes s.now }
+    ensures { prefix_by T.number result ≡ unsigned_call front T.means true skip_zeroes s.now }
 {
     T::atoi_simd_parse_prefix_neg(s, skip_zeroes)
 }

@@ -23,7 +23,7 @@ pub(crate) struct WideLimit {
 }
 
 impl WideLimit {
-    // Of an i64 that is negated.
+    // That of an i64 whose value is negated.
     pub(crate) const LEAST_I64: WideLimit = WideLimit {
         max: i64::MAX as u64 + 1,
         len_more: 3,

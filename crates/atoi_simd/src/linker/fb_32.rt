@@ -12,16 +12,16 @@ use crate::error::AtoiSimdError;
 use crate::fallback::{parse_fb_checked_neg, parse_fb_neg};
 use crate::limit::{Limit, NarrowLimit};
 
-// What a signed type adds, for its digits whose value is negated.
+// What a signed type brings to be read with its value negated.
 trait NarrowSigned: Number {
     fn least() -> NarrowLimit
-        ensures { result.max ≡ limit Self.Number.means true };
+        ensures { result.max ≡ limit Self.means true };
 
     // The value that stands for a negated number.
     fn of_negated(number: i64) -> Self
-        requires least { neg_ℤ (pos (limit Self.Number.means true)) ≤ℤ number }
+        requires least { neg_ℤ (pos (limit Self.means true)) ≤ℤ number }
         requires negated { number ≤ℤ pos 0 }
-        ensures { Self.Number.number result ≡ number };
+        ensures { Self.number result ≡ number };
 }
 
 impl<T: NarrowSigned> ParseNeg for T {

@@ -26,24 +26,24 @@ pub trait Number: Sized {
 // Digits with no sign before them.
 pub trait ParsePos: Number {
     fn atoi_simd_parse_pos(s: &[u8], skip_zeroes: bool) -> Result<Self, AtoiSimdError<'_>>
-        ensures { checked_by Self.Number.number (length s.now) result ≡ unsigned_call all Self.Number.means false skip_zeroes s.now };
+        ensures { checked_by Self.number (length s.now) result ≡ unsigned_call all Self.means false skip_zeroes s.now };
 
     fn atoi_simd_parse_prefix_pos(
         s: &[u8],
         skip_zeroes: bool,
     ) -> Result<(Self, usize), AtoiSimdError<'_>>
-        ensures { prefix_by Self.Number.number result ≡ unsigned_call front Self.Number.means false skip_zeroes s.now };
+        ensures { prefix_by Self.number result ≡ unsigned_call front Self.means false skip_zeroes s.now };
 }
 
-// What a type adds to its meaning, for its digits with no sign: its greatest number is its own.
+// What a type brings to be read with no sign. Its greatest number is a constant of its own.
 pub(crate) trait Limited: Number {
     fn greatest() -> Limit
-        ensures { magnitude result ≡ limit Self.Number.means false };
+        ensures { magnitude result ≡ limit Self.means false };
 
     // The value that stands for a number.
     fn of(number: u64) -> Self
-        requires { number ≤ limit Self.Number.means false }
-        ensures { Self.Number.number result ≡ pos number };
+        requires { number ≤ limit Self.means false }
+        ensures { Self.number result ≡ pos number };
 }
 
 impl<T: Limited> ParsePos for T {
@@ -70,34 +70,37 @@ impl<T: Limited> ParsePos for T {
 // Digits with no sign before them, whose value is negated.
 pub trait ParseNeg: Number {
     fn atoi_simd_parse_neg(s: &[u8], skip_zeroes: bool) -> Result<Self, AtoiSimdError<'_>>
-        ensures { checked_by Self.Number.number (length s.now) result ≡ unsigned_call all Self.Number.means true skip_zeroes s.now };
+        ensures { checked_by Self.number (length s.now) result ≡ unsigned_call all Self.means true skip_zeroes s.now };
 
     fn atoi_simd_parse_prefix_neg(
         s: &[u8],
         skip_zeroes: bool,
     ) -> Result<(Self, usize), AtoiSimdError<'_>>
-        ensures { prefix_by Self.Number.number result ≡ unsigned_call front Self.Number.means true skip_zeroes s.now };
+        ensures { prefix_by Self.number result ≡ unsigned_call front Self.means true skip_zeroes s.now };
 }
 
-// Digits with at most one sign before them. It is written out for each type: two impls, one for the
-// types that take a minus and one for the others, would overlap, and no macro may write an impl.
+// Digits with at most one sign before them.
+//
+// It is written out for each type: an impl for all that take a minus and one for all others would
+// overlap, and no macro may write an impl.
 pub trait Parse: ParsePos {
     fn atoi_simd_parse(
         s: &[u8],
         skip_zeroes: bool,
         skip_plus: bool,
     ) -> Result<Self, AtoiSimdError<'_>>
-        ensures { checked_by Self.Number.number (length s.now) result ≡ signed_call all Self.Number.means skip_zeroes skip_plus s.now };
+        ensures { checked_by Self.number (length s.now) result ≡ signed_call all Self.means skip_zeroes skip_plus s.now };
 
     fn atoi_simd_parse_prefix(
         s: &[u8],
         skip_zeroes: bool,
         skip_plus: bool,
     ) -> Result<(Self, usize), AtoiSimdError<'_>>
-        ensures { prefix_by Self.Number.number result ≡ signed_call front Self.Number.means skip_zeroes skip_plus s.now };
+        ensures { prefix_by Self.number result ≡ signed_call front Self.means skip_zeroes skip_plus s.now };
 }
 
-// The next four are not one: it would take each reader as a closure, and a caller still name it.
+// The four readers of a sign that follow are not one: it would take each reader of digits as a
+// closure, and every caller would still name it.
 
 // An unsigned number: a `+` may stand before it.
 fn atoi_simd_parse_unsigned<T: ParsePos>(
@@ -105,8 +108,8 @@ fn atoi_simd_parse_unsigned<T: ParsePos>(
     skip_zeroes: bool,
     skip_plus: bool,
 ) -> Result<T, AtoiSimdError<'_>>
-    requires { takes_minus T.Number.means ≡ false }
-    ensures { checked_by T.Number.number (length s.now) result ≡ signed_call all T.Number.means skip_zeroes skip_plus s.now }
+    requires { takes_minus T.means ≡ false }
+    ensures { checked_by T.number (length s.now) result ≡ signed_call all T.means skip_zeroes skip_plus s.now }
 {
     match s {
         [b'+', rest @ ..] if skip_plus => T::atoi_simd_parse_pos(rest, skip_zeroes),
@@ -130,8 +133,8 @@ fn atoi_simd_parse_prefix_unsigned<T: ParsePos>(
     skip_zeroes: bool,
     skip_plus: bool,
 ) -> Result<(T, usize), AtoiSimdError<'_>>
-    requires { takes_minus T.Number.means ≡ false }
-    ensures { prefix_by T.Number.number result ≡ signed_call front T.Number.means skip_zeroes skip_plus s.now }
+    requires { takes_minus T.means ≡ false }
+    ensures { prefix_by T.number result ≡ signed_call front T.means skip_zeroes skip_plus s.now }
 {
     match s {
         [b'+', rest @ ..] if skip_plus => {
@@ -147,8 +150,8 @@ fn atoi_simd_parse_signed<T: ParsePos + ParseNeg>(
     skip_zeroes: bool,
     skip_plus: bool,
 ) -> Result<T, AtoiSimdError<'_>>
-    requires { takes_minus T.Number.means ≡ true }
-    ensures { checked_by T.Number.number (length s.now) result ≡ signed_call all T.Number.means skip_zeroes skip_plus s.now }
+    requires { takes_minus T.means ≡ true }
+    ensures { checked_by T.number (length s.now) result ≡ signed_call all T.means skip_zeroes skip_plus s.now }
 {
     match s {
         [b'+', rest @ ..] if skip_plus => T::atoi_simd_parse_pos(rest, skip_zeroes),
@@ -163,8 +166,8 @@ fn atoi_simd_parse_prefix_signed<T: ParsePos + ParseNeg>(
     skip_zeroes: bool,
     skip_plus: bool,
 ) -> Result<(T, usize), AtoiSimdError<'_>>
-    requires { takes_minus T.Number.means ≡ true }
-    ensures { prefix_by T.Number.number result ≡ signed_call front T.Number.means skip_zeroes skip_plus s.now }
+    requires { takes_minus T.means ≡ true }
+    ensures { prefix_by T.number result ≡ signed_call front T.means skip_zeroes skip_plus s.now }
 {
     match s {
         [b'+', rest @ ..] if skip_plus => {

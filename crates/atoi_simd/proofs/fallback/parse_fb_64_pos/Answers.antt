@@ -1,4 +1,7 @@
-use Rattle.std.proofs.Common.{◌≡◌, ◌+◌, ◌*◌, ◌^◌, ◌<◌, ◌≤◌, length, drop, true, eqb, pos, sym, ap, ◌∙◌, subst, ⊎_elim, arith, rules}
+use Rattle.std.proofs.Common.{◌≡◌, ℕ, ◌+◌, ◌*◌, ◌^◌, ◌<◌, ◌≤◌, length, drop, true, eqb, pos, Some, None, Ok, Err, Option, sym, ap, ◌∙◌, subst, ⊎_elim, arith, rules}
+use Rattle.std.specs.Option.{SomeIff, ok_or}
+use Rattle.std.proofs.lemmas.Result.{err_from_is_err_and}
+use Rattle.atoi_simd.specs.declared.error.AtoiSimdError.{AtoiSimdError}
 use Rattle.std.proofs.lemmas.List.{take_rest}
 use Rattle.std.proofs.lemmas.Bool.{both_ways}
 use Rattle.atoi_simd.specs.Answer.{ok}
@@ -79,17 +82,28 @@ joined-requires-clause-more c =
     let q = more (goal.at.joined-requires-clause-more c).In-Ok-parse_8 in
     rest_low c.args.limit.max c.loop-v.invariant c.args.limit.wide r q
 
-pub returns-in-Some-clause-value : goal.returns-in-Some-clause-value
-returns-in-Some-clause-value c =
-    let r = full (goal.at.returns-in-Some-clause-value c).In-Ok in
-    let q = more (goal.at.returns-in-Some-clause-value c).In-Ok-parse_8 in
-    let is : c.in-Some.value ≡ c.in-Ok.v * 10 ^ c.in-Ok-parse_8.v.1 + c.in-Ok-parse_8.v.0 = c.in-Some.ensures.1 in
-    ap (λ x. ok (pos x) (c.in-Ok-parse_8.v.1 + 16 + c.loop-v.skipped)) is
-    ∙ reads c.args.limit.max c.loop-v.invariant c.args.limit.wide r q c.args.limit.len_more c.args.limit.digits c.if-len-limit.false c.in-Some.ensures.0
+-- what was joined, by the result that it became
+joined_ok : (P : Type 0) (o : Option ℕ) (x v : ℕ) (e : AtoiSimdError) → SomeIff o P x → ok_or o e ≡ Ok v → P × (v ≡ x)
+joined_ok P (Some y) x v e iff is = let same : y ≡ v = cc in (iff.0, sym same ∙ iff.1)
+joined_ok P None x v e iff is = let z : ◌≡◌ {A = ℕ} 0 1 = cc in absurd (omega arith)
 
-pub returns-in-None-clause-value : goal.returns-in-None-clause-value
-returns-in-None-clause-value c =
-    let r = full (goal.at.returns-in-None-clause-value c).In-Ok in
-    let q = more (goal.at.returns-in-None-clause-value c).In-Ok-parse_8 in
-    let above : c.args.limit.max < c.in-Ok.v * 10 ^ c.in-Ok-parse_8.v.1 + c.in-Ok-parse_8.v.0 = omega (arith, c.in-None.ensures) in
-    over c.args.limit.max c.loop-v.invariant c.args.limit.wide r q c.args.limit.len_more c.args.limit.digits c.if-len-limit.false above
+joined_err : (P : Type 0) (o : Option ℕ) (x : ℕ) (e f : AtoiSimdError) → SomeIff o P x → ok_or o e ≡ Err f → (P → ⊥) × (f ≡ e)
+joined_err P (Some y) x e f iff is = let z : ◌≡◌ {A = ℕ} 0 1 = cc in absurd (omega arith)
+joined_err P None x e f iff is = let same : e ≡ f = cc in (iff, sym same)
+
+pub returns-in-loop-v-clause-value : goal.returns-in-loop-v-clause-value
+returns-in-loop-v-clause-value c =
+    let r = full (goal.at.returns-in-loop-v-clause-value c).In-Ok in
+    let q = more (goal.at.returns-in-loop-v-clause-value c).In-Ok-parse_8 in
+    let j = joined_ok _ _ _ _ _ c.joined.ensures (rw c.ok_or.ensures.value at c.in_ok-value.was) in
+    ap (λ x. ok (pos x) (c.in-Ok-parse_8.v.1 + 16 + c.loop-v.skipped)) j.1
+    ∙ reads c.args.limit.max c.loop-v.invariant c.args.limit.wide r q c.args.limit.len_more c.args.limit.digits c.if-len-limit.false j.0
+
+pub returns-in_err-value-clause-value : goal.returns-in_err-value-clause-value
+returns-in_err-value-clause-value c =
+    let r = full (goal.at.returns-in_err-value-clause-value c).In-Ok in
+    let q = more (goal.at.returns-in_err-value-clause-value c).In-Ok-parse_8 in
+    let p = err_from_is_err_and c.from_residual.result c.from_residual.ensures.1 in
+    let j = joined_err _ _ _ _ _ c.joined.ensures (rw c.ok_or.ensures.value at c.in_err-value.was) in
+    let above : c.args.limit.max < c.in-Ok.v * 10 ^ c.in-Ok-parse_8.v.1 + c.in-Ok-parse_8.v.0 = omega (arith, j.0) in
+    rw (p.1, p.2) (rw j.1 (over c.args.limit.max c.loop-v.invariant c.args.limit.wide r q c.args.limit.len_more c.args.limit.digits c.if-len-limit.false above))
