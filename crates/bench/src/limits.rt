@@ -7,10 +7,12 @@ ghost use Rattle.bench.specs.Lawful.{limit_lawful};
 ghost use Rattle.std.proofs.Common.{rules};
 
 use records::kind::{LineKind, RecordKind, SheetKind};
+use records::number::{Field, Numbers};
 use records::refusal::Refusal;
+use std::cmp::Ordering;
 
 // The numbers of a limit, whatever they are.
-#[derive(Debug, Clone, Copy, Default, PartialEq, Eq, PartialOrd, Ord)]
+#[derive(Debug, Clone, Copy, Default, PartialEq, Eq)]
 pub struct LimitRow {
     pub lever: u8,
     // tenths of a degree Celsius
@@ -25,8 +27,6 @@ impl RecordKind for LimitRow {
     ghost means = { limit };
 
     ghost numbers = { limit_numbers };
-
-    ghost orders = { Prim.search rules };
 
     ghost lawful = { limit_lawful };
 
@@ -43,6 +43,10 @@ impl RecordKind for LimitRow {
 
     fn meets_condition(&self) -> bool {
         self.low <= self.high
+    }
+
+    fn compare(&self, other: &LimitRow) -> Ordering {
+        self.run().compare(&other.run())
     }
 }
 

@@ -5,8 +5,10 @@ ghost use Rattle.bench.specs.Lawful.{step_lawful};
 ghost use Rattle.std.proofs.Common.{rules};
 
 use records::kind::{LineKind, RecordKind, SheetKind};
+use records::number::{Field, Numbers};
+use std::cmp::Ordering;
 
-#[derive(Debug, Clone, Copy, Default, PartialEq, Eq, PartialOrd, Ord)]
+#[derive(Debug, Clone, Copy, Default, PartialEq, Eq)]
 pub struct StepRow {
     // microseconds
     pub start: u64,
@@ -23,8 +25,6 @@ impl RecordKind for StepRow {
     ghost means = { step };
 
     ghost numbers = { step_numbers };
-
-    ghost orders = { Prim.search rules };
 
     ghost lawful = { step_lawful };
 
@@ -46,6 +46,10 @@ impl RecordKind for StepRow {
 
     fn meets_condition(&self) -> bool {
         true
+    }
+
+    fn compare(&self, other: &StepRow) -> Ordering {
+        self.run().compare(&other.run())
     }
 }
 

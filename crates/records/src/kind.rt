@@ -14,7 +14,7 @@ use crate::payload::Payload;
 use crate::refusal::Refusal;
 use std::cmp::Ordering;
 
-pub trait RecordKind: Copy + Ord {
+pub trait RecordKind: Sized + Copy {
     // the row's numbers as a run
     type Run: Payload;
 
@@ -32,15 +32,10 @@ pub trait RecordKind: Copy + Ord {
     fn meets_condition(&self) -> bool
         ensures { result ≡ means.condition (numbers self.now) };
 
-    // Which of two records comes first, or that they are equal.
+    // Which of two records comes first, or that they are equal. Each kind says it, since its order need
+    // not be that of its run.
     fn compare(&self, other: &Self) -> Ordering
-        ensures { result ≡ ordering means (numbers self.now) (numbers other.now) }
-    {
-        self.cmp(other)
-    }
-
-    // the rows' own order is the kind's
-    ghost orders: { (x y : Self) → Self.cmp x y ≡ ordering means (numbers x) (numbers y) };
+        ensures { result ≡ ordering means (numbers self.now) (numbers other.now) };
 
     ghost lawful: { Lawful means };
 
@@ -49,22 +44,22 @@ pub trait RecordKind: Copy + Ord {
 
 pub trait LineKind: RecordKind {
     fn word() -> &'static [u8]
-        ensures { result.now ≡ Self.RecordKind.means.word };
+        ensures { result.now ≡ Self.means.word };
 }
 
 // A kind whose records stand on sheets.
 pub trait SheetKind: LineKind {
     // The kind's number on a sheet.
     fn number() -> u16
-        ensures { result ≡ Self.RecordKind.means.number };
+        ensures { result ≡ Self.means.number };
 
     // a row has a number for each type
-    ghost shape: { (x : Self) → length (Self.RecordKind.numbers x) ≡ length Self.RecordKind.means.types };
+    ghost shape: { (x : Self) → length (Self.numbers x) ≡ length Self.means.types };
 }
 
 // What stands behind the word, as a row that meets the condition.
 pub fn read_behind<K: RecordKind>(line: &[u8], at: usize) -> Result<K, Refusal<'_>>
-    ensures { outcome_by K.RecordKind.numbers result ≡ read_behind K.RecordKind.means line.now at }
+    ensures { outcome_by K.numbers result ≡ read_behind K.means line.now at }
 {
     let row = K::of_run(K::Run::read(line, at)?);
     if !row.meets_condition() {
@@ -76,15 +71,15 @@ pub fn read_behind<K: RecordKind>(line: &[u8], at: usize) -> Result<K, Refusal<'
 // Writes the record's payload at the place and answers the place behind it, or `None` where there
 // is no room.
 pub fn write_payload<K: RecordKind>(row: &K, out: &mut [u8], at: usize) -> Option<usize>
-    ensures { Written (payload_size K.RecordKind.means.types) (payload K.RecordKind.means.types (K.RecordKind.numbers row.now)) out.old at result out.new }
+    ensures { Written (payload_size K.means.types) (payload K.means.types (K.numbers row.now)) out.old at result out.new }
 {
     row.run().write(out, at)
 }
 
 // The record whose payload the bytes begin with, or `None` where the condition fails.
 pub fn read_payload<K: RecordKind>(bytes: &[u8]) -> Option<K>
-    ensures value { row_by K.RecordKind.numbers result ≡ record_of K.RecordKind.means bytes.now }
-    ensures reads_back { ReadsBack K.RecordKind.means bytes.now (row_by K.RecordKind.numbers result) }
+    ensures value { row_by K.numbers result ≡ record_of K.means bytes.now }
+    ensures reads_back { ReadsBack K.means bytes.now (row_by K.numbers result) }
 {
     let row = K::of_run(K::Run::of_bytes(bytes));
     row.meets_condition().then_some(row)

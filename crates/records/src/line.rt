@@ -16,7 +16,7 @@ pub enum Named<A, B> {
 
 // The section and the row that the line names, or why it names none.
 pub fn read_line<A: LineKind, B: LineKind>(line: &[u8]) -> Result<Named<A, B>, Refusal<'_>>
-    ensures { outcome_by (named_by A.RecordKind.numbers B.RecordKind.numbers) result ≡ read_line A.RecordKind.means B.RecordKind.means line.now }
+    ensures { outcome_by (named_by A.numbers B.numbers) result ≡ read_line A.means B.means line.now }
 {
     let end = count_before(line, b' ');
     let word = &line[..end];

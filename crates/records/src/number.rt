@@ -1,22 +1,20 @@
 // The numbers of a line, one after another.
 //
 // A refusal's place is an offset in the whole line, so `line` and `at` go side by side.
-ghost use Rattle.std.specs.Prelude.{◌≡◌, ℕ, ◌%◌, ◌^◌, ◌≤◌, List, [], ◌∷◌, ℤ, int_lt};
-ghost use Rattle.std.proofs.Common.{refl, rules};
+ghost use Rattle.std.specs.Prelude.{◌≡◌, ℕ, List, [], ◌∷◌, ℤ, int_lt};
+ghost use Rattle.std.proofs.Common.{rules};
 ghost use Rattle.records.specs.FieldType.{FieldType, in_bytes};
 ghost use Rattle.records.specs.Kind.{order_by};
 ghost use Rattle.records.specs.Lexicographic.{lex_before};
 ghost use Rattle.records.specs.Line.{next, number_at, read_numbers, stops};
 ghost use Rattle.records.specs.Meaning.{outcome_by, numeral_by};
-ghost use Rattle.records.specs.Payload.{code, decode};
 
 use crate::places::{count_of, tail};
 use crate::refusal::{Refusal, fault_at};
 use atoi_simd::{Parse, parse_prefix};
 use std::cmp::Ordering;
 
-// A number type that a kind may list, with its codes: the bits of a number as they stand in a
-// payload.
+// A number type that a kind may list.
 pub trait Field: Parse + Ord + Drop {
     // How many bytes a number takes in a payload.
     const WIDTH: usize;
@@ -25,26 +23,17 @@ pub trait Field: Parse + Ord + Drop {
 
     // Which of two numbers comes first.
     fn compare(&self, other: &Self) -> Ordering
-        ensures { result ≡ order_by int_lt (Self.Number.number self.now) (Self.Number.number other.now) }
+        ensures { result ≡ order_by int_lt (Self.number self.now) (Self.number other.now) }
     {
         self.cmp(other)
     }
 
-    fn to_code(&self) -> u64
-        ensures { result ≡ code (in_bytes WIDTH Self.Number.means) (Self.Number.number self.now) };
-
-    // The number whose code stands in the lowest bytes.
-    fn of_code(bits: u64) -> Self
-        ensures { Self.Number.number result ≡ decode (in_bytes WIDTH Self.Number.means) (bits % 256 ^ WIDTH) };
-
-    ghost few: { WIDTH ≤ 8 };
-
-    ghost orders: { (x y : Self) → Self.cmp x y ≡ order_by int_lt (Self.Number.number x) (Self.Number.number y) };
+    ghost orders: { (x y : Self) → Self.cmp x y ≡ order_by int_lt (Self.number x) (Self.number y) };
 }
 
 // The number that starts at the place, and the place behind it.
 fn number_here<T: Field>(line: &[u8], at: usize) -> Result<(T, usize), Refusal<'_>>
-    ensures { outcome_by (numeral_by T.Number.number) result ≡ number_at (in_bytes T.WIDTH T.Number.means) line.now at }
+    ensures { outcome_by (numeral_by T.number) result ≡ number_at (in_bytes T.WIDTH T.means) line.now at }
 {
     let read = parse_prefix::<T>(tail(line, at), true, true);
     let (value, count) = read.map_err(|fault| fault_at(at, fault))?;
@@ -60,7 +49,7 @@ fn stops(rest: &[u8]) -> bool
 
 // The next number from the place on, and the place behind it.
 pub fn number_at<T: Field>(line: &[u8], at: usize) -> Result<(T, usize), Refusal<'_>>
-    ensures { outcome_by (numeral_by T.Number.number) result ≡ next (in_bytes T.WIDTH T.Number.means) line.now at }
+    ensures { outcome_by (numeral_by T.number) result ≡ next (in_bytes T.WIDTH T.means) line.now at }
 {
     let from = at + count_of(tail(line, at), b' ');
     let (value, behind) = number_here::<T>(line, from)?;
@@ -103,9 +92,9 @@ impl Numbers for () {
 }
 
 impl<T: Field, R: Numbers> Numbers for (T, R) {
-    ghost types = { in_bytes T.WIDTH T.Number.means ∷ R.types };
+    ghost types = { in_bytes T.WIDTH T.means ∷ R.types };
 
-    ghost list = { λ p. T.Number.number p.0 ∷ R.list p.1 };
+    ghost list = { λ p. T.number p.0 ∷ R.list p.1 };
 
     fn compare(&self, other: &(T, R)) -> Ordering {
         self.0
@@ -119,23 +108,13 @@ impl<T: Field, R: Numbers> Numbers for (T, R) {
     }
 }
 
-// One impl for each type by hand: a macro may hold no ghost item (`unsupported-in-macro`).
+// By hand for each type, as a macro may hold no ghost item.
 impl Field for u8 {
     const WIDTH: usize = size_of::<u8>();
 
     ghost WIDTH = { 1 };
 
-    ghost few = { Prim.search rules };
-
     ghost orders = { Prim.search rules };
-
-    fn to_code(&self) -> u64 {
-        u64::from(*self)
-    }
-
-    fn of_code(bits: u64) -> u8 {
-        (bits % (1 << 8)) as u8
-    }
 }
 
 impl Field for i8 {
@@ -143,17 +122,7 @@ impl Field for i8 {
 
     ghost WIDTH = { 1 };
 
-    ghost few = { Prim.search rules };
-
     ghost orders = { Prim.search rules };
-
-    fn to_code(&self) -> u64 {
-        u64::from(self.cast_unsigned())
-    }
-
-    fn of_code(bits: u64) -> i8 {
-        ((bits % (1 << 8)) as u8).cast_signed()
-    }
 }
 
 impl Field for u16 {
@@ -161,17 +130,7 @@ impl Field for u16 {
 
     ghost WIDTH = { 2 };
 
-    ghost few = { Prim.search rules };
-
     ghost orders = { Prim.search rules };
-
-    fn to_code(&self) -> u64 {
-        u64::from(*self)
-    }
-
-    fn of_code(bits: u64) -> u16 {
-        (bits % (1 << 16)) as u16
-    }
 }
 
 impl Field for i16 {
@@ -179,17 +138,7 @@ impl Field for i16 {
 
     ghost WIDTH = { 2 };
 
-    ghost few = { Prim.search rules };
-
     ghost orders = { Prim.search rules };
-
-    fn to_code(&self) -> u64 {
-        u64::from(self.cast_unsigned())
-    }
-
-    fn of_code(bits: u64) -> i16 {
-        ((bits % (1 << 16)) as u16).cast_signed()
-    }
 }
 
 impl Field for u32 {
@@ -197,17 +146,7 @@ impl Field for u32 {
 
     ghost WIDTH = { 4 };
 
-    ghost few = { Prim.search rules };
-
     ghost orders = { Prim.search rules };
-
-    fn to_code(&self) -> u64 {
-        u64::from(*self)
-    }
-
-    fn of_code(bits: u64) -> u32 {
-        (bits % (1 << 32)) as u32
-    }
 }
 
 impl Field for i32 {
@@ -215,17 +154,7 @@ impl Field for i32 {
 
     ghost WIDTH = { 4 };
 
-    ghost few = { Prim.search rules };
-
     ghost orders = { Prim.search rules };
-
-    fn to_code(&self) -> u64 {
-        u64::from(self.cast_unsigned())
-    }
-
-    fn of_code(bits: u64) -> i32 {
-        ((bits % (1 << 32)) as u32).cast_signed()
-    }
 }
 
 impl Field for u64 {
@@ -233,17 +162,7 @@ impl Field for u64 {
 
     ghost WIDTH = { 8 };
 
-    ghost few = { Prim.search rules };
-
     ghost orders = { Prim.search rules };
-
-    fn to_code(&self) -> u64 {
-        *self
-    }
-
-    fn of_code(bits: u64) -> u64 {
-        bits
-    }
 }
 
 impl Field for i64 {
@@ -251,15 +170,5 @@ impl Field for i64 {
 
     ghost WIDTH = { 8 };
 
-    ghost few = { Prim.search rules };
-
     ghost orders = { Prim.search rules };
-
-    fn to_code(&self) -> u64 {
-        self.cast_unsigned()
-    }
-
-    fn of_code(bits: u64) -> i64 {
-        bits.cast_signed()
-    }
 }
