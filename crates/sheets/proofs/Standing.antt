@@ -1,5 +1,5 @@
 -- The records of a sheet by their places in its bytes.
-use Rattle.std.proofs.Common.{◌≡◌, ℕ, zero, suc, ◌+◌, ◌*◌, ◌<◌, ◌≤◌, Bool, true, false, cond, ◌&&◌, eqb, ltb, List, [], ◌∷◌, length, drop, ℤ, Some, None, sym, refl, ap, ◌∙◌, subst, ⊎_elim, arith}
+use Rattle.std.proofs.Common.{◌≡◌, ℕ, zero, suc, ◌+◌, ◌-◌, ◌*◌, ◌<◌, ◌≤◌, ◌^◌, min, Bool, true, false, cond, ◌&&◌, eqb, ltb, List, [], ◌∷◌, length, drop, ℤ, Some, None, sym, refl, ap, ◌∙◌, subst, ⊎_elim, arith}
 use Rattle.std.proofs.lemmas.Bool.{lt-ltb, le-ltb, eq-eqb, ne_eqb, and_from, and_left, and_right, cond-true, cond-false, cases_eq, cases_lt}
 use Rattle.records.specs.Kind.{Kind}
 use Rattle.records.specs.Line.{InSection, Section, first, second}
@@ -7,7 +7,7 @@ use Rattle.records.specs.Outcome.{plain, Outcome, got, refused, and_then}
 use Rattle.records.specs.Payload.{payload_size, record_of}
 use Rattle.model.specs.History.{named}
 use Rattle.model.specs.Reading.{behind, Both, counts, read_sheet, nth, record_at}
-use Rattle.sheets.specs.Handed.{mapped, found, standing}
+use Rattle.sheets.specs.Handed.{mapped, found, standing, record_in}
 use Rattle.model.proofs.Live.{first_not_second}
 use Rattle.model.proofs.Outcomes.{got_same, got_refused, then_got, then_pass}
 use Rattle.sheets.proofs.Outcomes.{mapped_got}
@@ -16,30 +16,36 @@ use Rattle.sheets.proofs.Records.{numbers_at, record_found}
 use Rattle.sheets.proofs.Sizes.{record_within}
 
 module _ (s : Section) (k : Kind) (bytes : List ℕ) (from i : ℕ) where
+  standing_short : length bytes < from + i * payload_size k.types + payload_size k.types → standing s k bytes from i ≡ refused (plain 28 0)
+  standing_short h = let t : ltb (length bytes) (from + i * payload_size k.types + payload_size k.types) ≡ true = lt-ltb _ _ h in rw t refl
+
   standing_whole : from + i * payload_size k.types + payload_size k.types ≤ length bytes → standing s k bytes from i ≡ found s (record_of k (drop (from + i * payload_size k.types) bytes))
   standing_whole h = let t : ltb (length bytes) (from + i * payload_size k.types + payload_size k.types) ≡ false = le-ltb _ _ h in rw t refl
 
+-- a place that is cut off at the greatest `usize` is past the bytes as well
+standing_saturated : (s : Section) (k : Kind) (bytes : List ℕ) (from far i : ℕ) → from ≡ min far (2 ^ 64 - 1) → length bytes < 2 ^ 63
+    → standing s k bytes from i ≡ standing s k bytes far i
+standing_saturated s k bytes from far i e few =
+    ⊎_elim
+    (λ h. ap (λ q. standing s k bytes q i) (omega arith))
+    (λ h. standing_short s k bytes from i (omega arith) ∙ sym (standing_short s k bytes far i (omega arith)))
+    (cases_lt far (2 ^ 63))
+
 -- ---- what is asked for
 
--- record i of the section asked for, in bytes taken for a sheet of m and n records
-abbrev record_in : Kind → Kind → List ℕ → ℕ → ℕ → ℕ → ℕ → Outcome InSection
-record_in a b bytes m n asked i =
-    cond (eqb asked 1 && ltb i m) (standing first a bytes 6 i)
-    (cond (eqb asked 2 && ltb i n) (standing second b bytes (12 + m * payload_size a.types) i)
-    (refused (plain 28 0)))
-
 module _ (a b : Kind) (bytes : List ℕ) (m n asked i : ℕ) where
-  in_first : {o : Outcome InSection} → asked ≡ 1 → i < m → o ≡ standing first a bytes 6 i → o ≡ record_in a b bytes m n asked i
+  pub in_first : {o : Outcome InSection} → asked ≡ 1 → i < m → o ≡ standing first a bytes 6 i → o ≡ record_in a b bytes m n asked i
   in_first is h e = e ∙ sym (cond-true (eqb asked 1 && ltb i m) _ _ (and_from _ _ (eq-eqb asked 1 is) (lt-ltb i m h)))
 
-  in_second : {o : Outcome InSection} → asked ≡ 2 → i < n → o ≡ standing second b bytes (12 + m * payload_size a.types) i
-      → o ≡ record_in a b bytes m n asked i
-  in_second is h e =
+  pub in_second : {o : Outcome InSection} (from : ℕ) → asked ≡ 2 → i < n → from ≡ min (12 + m * payload_size a.types) (2 ^ 64 - 1) → length bytes < 2 ^ 63
+      → o ≡ standing second b bytes from i → o ≡ record_in a b bytes m n asked i
+  in_second from is h place few e =
       e
+      ∙ standing_saturated second b bytes from (12 + m * payload_size a.types) i place few
       ∙ sym (cond-false (eqb asked 1 && ltb i m) _ _ (and_left _ _ (ne_eqb asked 1 (λ e. omega arith)))
       ∙ cond-true (eqb asked 2 && ltb i n) _ _ (and_from _ _ (eq-eqb asked 2 is) (lt-ltb i n h)))
 
-  in_neither : (asked ≡ 1 → m ≤ i) → (asked ≡ 2 → n ≤ i) → refused (plain 28 0) ≡ record_in a b bytes m n asked i
+  pub in_neither : (asked ≡ 1 → m ≤ i) → (asked ≡ 2 → n ≤ i) → refused (plain 28 0) ≡ record_in a b bytes m n asked i
   in_neither f g = sym (cond-false (eqb asked 1 && ltb i m) _ _ (past 1 m f) ∙ cond-false (eqb asked 2 && ltb i n) _ _ (past 2 n g))
     where
       past : (q l : ℕ) → (asked ≡ q → l ≤ i) → (eqb asked q && ltb i l) ≡ false
@@ -74,7 +80,7 @@ module _ (s : Section) (k : Kind) (bytes : List ℕ) (at : ℕ) (xs : List (List
       (λ h. cond-false (ltb i (length xs)) _ _ (le-ltb i (length xs) h) ∙ sym (ap (λ o. and_then o (named s)) (nth_past xs i h)))
       (cases_lt i (length xs))
 
-record_checked : (a b : Kind) (bytes : List ℕ) (m n asked i : ℕ) (o : Outcome InSection) → o ≡ record_in a b bytes m n asked i
+pub record_checked : (a b : Kind) (bytes : List ℕ) (m n asked i : ℕ) (o : Outcome InSection) → o ≡ record_in a b bytes m n asked i
     → (both : Both) → read_sheet a b bytes ≡ got both → counts both ≡ (m, n) → o ≡ record_at both asked i
 record_checked a b bytes m n asked i o is both e c =
     is ∙ subst (λ q. record_in a b bytes q.0 q.1 asked i ≡ record_at both asked i) c (⊎_elim first_of (λ not-1. ⊎_elim second_of (none_of not-1) (cases_eq asked 2)) (cases_eq asked 1))
@@ -96,34 +102,13 @@ record_checked a b bytes m n asked i o is both e c =
         let g : eqb asked 2 ≡ false = ne_eqb asked 2 not-2 in
         rw (f, g) refl
 
--- ---- in a sheet that was read, whose sections have m and n records
-
-module _ (a b : Kind) (bytes : List ℕ) (m n : ℕ) (checked : mapped counts (read_sheet a b bytes) ≡ got (m, n)) where
-  -- the second section's records have their place in the bytes
-  pub second_place : (size : ℕ) → size ≡ payload_size a.types → 12 + m * size ≤ length bytes
-  second_place size wide =
-      let p = mapped_got counts (read_sheet a b bytes) (m, n) (sym checked) in
-      let sheet = sheet_read a b bytes p.0 p.1 in
-      let one : length p.0.in₁ ≡ m = ap (λ q. q.0) p.2 in
-      rw wide (subst (λ q. 12 + q * payload_size a.types ≤ length bytes) one (omega (arith, sheet.first.end, sheet.second.end, sheet.second.room)))
-
-  module _ (asked i : ℕ) {o : Outcome InSection} where
-    handed : o ≡ record_in a b bytes m n asked i → o ≡ and_then (read_sheet a b bytes) (λ both. record_at both asked i)
-    handed is =
-        let p = mapped_got counts (read_sheet a b bytes) (m, n) (sym checked) in
-        record_checked a b bytes m n asked i o is p.0 p.1 p.2 ∙ sym (then_pass (read_sheet a b bytes) (λ both. record_at both asked i) p.0 p.1)
-
-    pub first_handed : asked ≡ 1 → i < m → o ≡ standing first a bytes 6 i → o ≡ and_then (read_sheet a b bytes) (λ both. record_at both asked i)
-    first_handed is h e = handed (in_first a b bytes m n asked i is h e)
-
-    pub second_handed : asked ≡ 2 → i < n → (size : ℕ) → size ≡ payload_size a.types → o ≡ standing second b bytes (12 + m * size) i
-        → o ≡ and_then (read_sheet a b bytes) (λ both. record_at both asked i)
-    second_handed is h size wide e =
-        handed (in_second a b bytes m n asked i is h (e ∙ ap (λ s. standing second b bytes (12 + m * s) i) wide))
-
-  pub none_handed : (asked i : ℕ) → (asked ≡ 1 → m ≤ i) → (asked ≡ 2 → n ≤ i)
-      → refused (plain 28 0) ≡ and_then (read_sheet a b bytes) (λ both. record_at both asked i)
-  none_handed asked i f g = handed asked i (in_neither a b bytes m n asked i f g)
+-- what is handed out of a sheet that was read, where the stored counts are its own
+pub handed : (a b : Kind) (bytes : List ℕ) (m n asked i : ℕ) (o : Outcome InSection) → mapped counts (read_sheet a b bytes) ≡ got (m, n)
+    → ((both : Both) → read_sheet a b bytes ≡ got both → counts both ≡ (m, n) → o ≡ record_at both asked i)
+    → o ≡ and_then (read_sheet a b bytes) (λ both. record_at both asked i)
+handed a b bytes m n asked i o checked f =
+    let p = mapped_got counts (read_sheet a b bytes) (m, n) (sym checked) in
+    f p.0 p.1 p.2 ∙ sym (then_pass (read_sheet a b bytes) (λ both. record_at both asked i) p.0 p.1)
 
 -- a record that is handed out of the second section meets its condition
 module _ (a b : Kind) (bytes : List ℕ) (asked i : ℕ) (r : List ℤ) where

@@ -1,4 +1,4 @@
-// What a frame begins with, and how many bytes a record of it has.
+// What a frame begins with, and how many bytes a record of it has. Places are offsets in the whole sheet.
 ghost use Rattle.std.specs.Prelude.{◌≡◌, ◌+◌, ◌≤◌, ◌++◌, length};
 ghost use Rattle.words.specs.Bytes.{bytes_le};
 ghost use Rattle.records.specs.Payload.{payload_size, put};
@@ -13,7 +13,7 @@ type Header = (u32, (u16, ()));
 
 // How many bytes a record has.
 pub(crate) fn record_size<K: RecordKind>() -> usize
-    ensures value { result ≡ payload_size K.RecordKind.means.types }
+    ensures value { result ≡ payload_size K.means.types }
     ensures some { 1 ≤ result }
     ensures few { result ≤ 64 }
 {

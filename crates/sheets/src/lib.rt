@@ -9,6 +9,6 @@ pub mod reader;
 pub mod refusal;
 pub mod writer;
 
-pub use reader::{CheckedSheet, read_sheet};
+pub use reader::{CheckedSheet, find_record, read_sheet};
 pub use refusal::{SheetRefusal, TooShort};
 pub use writer::{frame_size, write_sheet};

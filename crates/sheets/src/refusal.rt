@@ -3,9 +3,10 @@
 ghost use Rattle.std.specs.Prelude.{◌≡◌};
 ghost use Rattle.sheets.specs.Refusals.{refused_of, too_short};
 
+use std::error::Error;
 use std::fmt;
 
-#[derive(Debug, Clone, Copy)]
+#[derive(Debug, Clone, Copy, PartialEq, Eq)]
 pub enum SheetRefusal {
     // fewer bytes are left than a frame begins with
     NoHeader { at: usize },
@@ -59,7 +60,7 @@ impl SheetRefusal {
 }
 
 impl fmt::Display for SheetRefusal {
-    fn fmt<W: fmt::Write>(&self, f: &mut fmt::Formatter<W>) -> Result<(), fmt::Error> {
+    fn fmt<W: fmt::Write>(&self, f: &mut fmt::Formatter<W>) -> fmt::Result {
         match self {
             SheetRefusal::NoHeader { .. } => write!(f, "a frame has to begin here"),
             SheetRefusal::OtherKind { .. } => write!(f, "the frame is of another kind"),
@@ -79,8 +80,10 @@ impl fmt::Display for SheetRefusal {
     }
 }
 
+impl Error for SheetRefusal {}
+
 // The buffer is shorter than what has to be written.
-#[derive(Debug, Clone, Copy)]
+#[derive(Debug, Clone, Copy, PartialEq, Eq)]
 pub struct TooShort;
 
 impl TooShort {
@@ -98,7 +101,9 @@ impl TooShort {
 }
 
 impl fmt::Display for TooShort {
-    fn fmt<W: fmt::Write>(&self, f: &mut fmt::Formatter<W>) -> Result<(), fmt::Error> {
+    fn fmt<W: fmt::Write>(&self, f: &mut fmt::Formatter<W>) -> fmt::Result {
         write!(f, "the buffer is too short")
     }
 }
+
+impl Error for TooShort {}

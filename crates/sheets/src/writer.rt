@@ -1,6 +1,6 @@
 // Frames and sheets, written into a buffer that the caller lends.
 //
-// A place goes beside the buffer, and no part of it for both: what stands before the place is kept.
+// A place goes beside the buffer: a frame is put where the one before it ends, as the definition says.
 ghost use Rattle.std.specs.Prelude.{◌≡◌, ◌+◌, ◌-◌, ◌*◌, ◌^◌, ◌≤◌, min, ◌++◌, map, length};
 ghost use Rattle.records.specs.Payload.{payload_size, put};
 ghost use Rattle.model.specs.Sheet.{payloads, frame, Writes};
@@ -12,15 +12,15 @@ use records::kind::{LineKind, RecordKind, SheetKind, write_payload};
 
 // How many bytes the frame of so many records has, up to the greatest `usize`.
 pub fn frame_size<K: RecordKind>(n: usize) -> usize
-    ensures { result ≡ min (6 + n * payload_size K.RecordKind.means.types) (2 ^ 64 - 1) }
+    ensures { result ≡ min (6 + n * payload_size K.means.types) (2 ^ 64 - 1) }
 {
     n.saturating_mul(record_size::<K>()).saturating_add(6)
 }
 
 // Writes the payloads of the rows, one after another, from the place on.
 fn write_rows<K: SheetKind>(rows: &[K], out: &mut [u8], at: usize)
-    requires { at + length rows.now * payload_size K.RecordKind.means.types ≤ length out.old }
-    ensures { out.new ≡ put out.old at (payloads K.RecordKind.means (map K.RecordKind.numbers rows.now)) }
+    requires { at + length rows.now * payload_size K.means.types ≤ length out.old }
+    ensures { out.new ≡ put out.old at (payloads K.means (map K.numbers rows.now)) }
 {
     let size = record_size::<K>();
     for (i, row) in rows.iter().enumerate() {
@@ -30,8 +30,8 @@ fn write_rows<K: SheetKind>(rows: &[K], out: &mut [u8], at: usize)
 
 // Writes the frame of the rows from the place on.
 fn write_frame<K: SheetKind>(rows: &[K], out: &mut [u8], at: usize)
-    requires { at + 6 + length rows.now * payload_size K.RecordKind.means.types ≤ length out.old }
-    ensures { out.new ≡ put out.old at (frame K.RecordKind.means (map K.RecordKind.numbers rows.now)) }
+    requires { at + 6 + length rows.now * payload_size K.means.types ≤ length out.old }
+    ensures { out.new ≡ put out.old at (frame K.means (map K.numbers rows.now)) }
 {
     let length = ((rows.len() * record_size::<K>()) % (1 << 32)) as u32;
     write_header(out, at, length, K::number());
@@ -45,7 +45,7 @@ pub fn write_sheet<A: SheetKind, B: SheetKind>(
     second: &[B],
     out: &mut [u8],
 ) -> Result<usize, TooShort>
-    ensures { Writes (frame A.RecordKind.means (map A.RecordKind.numbers first.now) ++ frame B.RecordKind.means (map B.RecordKind.numbers second.now))
+    ensures { Writes (frame A.means (map A.numbers first.now) ++ frame B.means (map B.numbers second.now))
         out.old (wrote result) out.new }
 {
     let middle = frame_size::<A>(first.len());
