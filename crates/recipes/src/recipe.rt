@@ -30,13 +30,13 @@ pub struct Recipe<'a, A, B> {
 }
 
 impl<'a, A: SheetKind, B: SheetKind> Recipe<'a, A, B> {
-    // `SameSlots` is in each contract: only by it does a caller know what a `&mut` in a struct holds.
+    // `SameSlots` is on each call that changes a recipe: by it alone does a caller know its slots.
     ghost use Rattle.recipes.specs.Rows.{both, told, SameSlots};
 
     // An empty recipe over two runs of slots, whatever they hold. They are two, as their rows differ.
     pub fn open(first: &'a mut [A], second: &'a mut [B]) -> Recipe<'a, A, B>
-        ensures sections { both A.RecordKind.numbers B.RecordKind.numbers result ≡ begun (map A.RecordKind.numbers first.old) (map B.RecordKind.numbers second.old) }
-        ensures history { Reached (over A.RecordKind.means B.RecordKind.means (length first.old) (length second.old)) [] (both A.RecordKind.numbers B.RecordKind.numbers result) }
+        ensures sections { both A.numbers B.numbers result ≡ begun (map A.numbers first.old) (map B.numbers second.old) }
+        ensures history { Reached (over A.means B.means (length first.old) (length second.old)) [] (both A.numbers B.numbers result) }
         ensures first { result.first.ghost_name ≡ first.entry.ghost_name }
         ensures second { result.second.ghost_name ≡ second.entry.ghost_name }
     {
@@ -50,10 +50,10 @@ impl<'a, A: SheetKind, B: SheetKind> Recipe<'a, A, B> {
 
     // Makes the row live in its section, or answers `None` where there is no slot for it.
     fn enter_row(&mut self, row: Named<A, B>) -> Option<Counted>
-        ensures answer { told (ok_or result RecipeRefusal.Full) ≡ answered_by enter_in A.RecordKind.means B.RecordKind.means
-            (got (named_by A.RecordKind.numbers B.RecordKind.numbers row)) (both A.RecordKind.numbers B.RecordKind.numbers self.old) }
-        ensures sections { both A.RecordKind.numbers B.RecordKind.numbers self.new ≡ changed_by entered A.RecordKind.means B.RecordKind.means
-            (got (named_by A.RecordKind.numbers B.RecordKind.numbers row)) (both A.RecordKind.numbers B.RecordKind.numbers self.old) }
+        ensures answer { told (ok_or result RecipeRefusal.Full) ≡ answered_by enter_in A.means B.means
+            (got (named_by A.numbers B.numbers row)) (both A.numbers B.numbers self.old) }
+        ensures sections { both A.numbers B.numbers self.new ≡ changed_by entered A.means B.means
+            (got (named_by A.numbers B.numbers row)) (both A.numbers B.numbers self.old) }
         ensures slots { SameSlots self.new self.old }
     {
         let (section, count) = match row {
@@ -74,12 +74,12 @@ impl<'a, A: SheetKind, B: SheetKind> Recipe<'a, A, B> {
     }
 
     // Takes the row out of its section, or answers `None` where it is not live.
-    // One function with `enter_row` would take a step for rows of any kind, a trait longer than this.
+    // It is not one with `enter_row`: a step on a section of either kind would be a trait, and longer.
     fn strike_row(&mut self, row: Named<A, B>) -> Option<Counted>
-        ensures answer { told (ok_or result RecipeRefusal.NotLive) ≡ answered_by strike_in A.RecordKind.means B.RecordKind.means
-            (got (named_by A.RecordKind.numbers B.RecordKind.numbers row)) (both A.RecordKind.numbers B.RecordKind.numbers self.old) }
-        ensures sections { both A.RecordKind.numbers B.RecordKind.numbers self.new ≡ changed_by struck A.RecordKind.means B.RecordKind.means
-            (got (named_by A.RecordKind.numbers B.RecordKind.numbers row)) (both A.RecordKind.numbers B.RecordKind.numbers self.old) }
+        ensures answer { told (ok_or result RecipeRefusal.NotLive) ≡ answered_by strike_in A.means B.means
+            (got (named_by A.numbers B.numbers row)) (both A.numbers B.numbers self.old) }
+        ensures sections { both A.numbers B.numbers self.new ≡ changed_by struck A.means B.means
+            (got (named_by A.numbers B.numbers row)) (both A.numbers B.numbers self.old) }
         ensures slots { SameSlots self.new self.old }
     {
         let (section, count) = match row {
@@ -102,9 +102,9 @@ impl<'a, A: SheetKind, B: SheetKind> Recipe<'a, A, B> {
     // Makes the record that the line reads as live, and answers its section and that section's
     // count of live records afterwards.
     pub fn enter<'l>(&mut self, line: &'l [u8]) -> Result<Counted, RecipeRefusal<'l>>
-        ensures answer { told result ≡ enter_answer A.RecordKind.means B.RecordKind.means line.now (both A.RecordKind.numbers B.RecordKind.numbers self.old) }
-        ensures sections { both A.RecordKind.numbers B.RecordKind.numbers self.new ≡ after A.RecordKind.means B.RecordKind.means (enter line.now) (both A.RecordKind.numbers B.RecordKind.numbers self.old) }
-        ensures history { Enters A.RecordKind.means B.RecordKind.means line.now (both A.RecordKind.numbers B.RecordKind.numbers self.old) (told result) (both A.RecordKind.numbers B.RecordKind.numbers self.new) }
+        ensures answer { told result ≡ enter_answer A.means B.means line.now (both A.numbers B.numbers self.old) }
+        ensures sections { both A.numbers B.numbers self.new ≡ after A.means B.means (enter line.now) (both A.numbers B.numbers self.old) }
+        ensures history { Enters A.means B.means line.now (both A.numbers B.numbers self.old) (told result) (both A.numbers B.numbers self.new) }
         ensures slots { SameSlots self.new self.old }
     {
         self.enter_row(read_line(line)?).ok_or(RecipeRefusal::Full)
@@ -113,9 +113,9 @@ impl<'a, A: SheetKind, B: SheetKind> Recipe<'a, A, B> {
     // Ends that the record that the line reads as is live, and answers its section and that
     // section's count of live records afterwards.
     pub fn strike<'l>(&mut self, line: &'l [u8]) -> Result<Counted, RecipeRefusal<'l>>
-        ensures answer { told result ≡ strike_answer A.RecordKind.means B.RecordKind.means line.now (both A.RecordKind.numbers B.RecordKind.numbers self.old) }
-        ensures sections { both A.RecordKind.numbers B.RecordKind.numbers self.new ≡ after A.RecordKind.means B.RecordKind.means (strike line.now) (both A.RecordKind.numbers B.RecordKind.numbers self.old) }
-        ensures history { Strikes A.RecordKind.means B.RecordKind.means line.now (both A.RecordKind.numbers B.RecordKind.numbers self.old) (told result) (both A.RecordKind.numbers B.RecordKind.numbers self.new) }
+        ensures answer { told result ≡ strike_answer A.means B.means line.now (both A.numbers B.numbers self.old) }
+        ensures sections { both A.numbers B.numbers self.new ≡ after A.means B.means (strike line.now) (both A.numbers B.numbers self.old) }
+        ensures history { Strikes A.means B.means line.now (both A.numbers B.numbers self.old) (told result) (both A.numbers B.numbers self.new) }
         ensures slots { SameSlots self.new self.old }
     {
         self.strike_row(read_line(line)?)
@@ -124,9 +124,9 @@ impl<'a, A: SheetKind, B: SheetKind> Recipe<'a, A, B> {
 
     // Ends that anything is live, and answers how many records were in all.
     pub fn clear(&mut self) -> usize
-        ensures answer { result ≡ clear_answer (both A.RecordKind.numbers B.RecordKind.numbers self.old) }
-        ensures sections { both A.RecordKind.numbers B.RecordKind.numbers self.new ≡ after A.RecordKind.means B.RecordKind.means clear (both A.RecordKind.numbers B.RecordKind.numbers self.old) }
-        ensures history { Clears A.RecordKind.means B.RecordKind.means (both A.RecordKind.numbers B.RecordKind.numbers self.old) result (both A.RecordKind.numbers B.RecordKind.numbers self.new) }
+        ensures answer { result ≡ clear_answer (both A.numbers B.numbers self.old) }
+        ensures sections { both A.numbers B.numbers self.new ≡ after A.means B.means clear (both A.numbers B.numbers self.old) }
+        ensures history { Clears A.means B.means (both A.numbers B.numbers self.old) result (both A.numbers B.numbers self.new) }
         ensures slots { SameSlots self.new self.old }
     {
         let n = self.first_count + self.second_count;
@@ -137,7 +137,7 @@ impl<'a, A: SheetKind, B: SheetKind> Recipe<'a, A, B> {
 
     // Makes the call, whatever it answers.
     pub(crate) fn make(&mut self, command: &Command)
-        ensures sections { both A.RecordKind.numbers B.RecordKind.numbers self.new ≡ after A.RecordKind.means B.RecordKind.means (call_of command.now) (both A.RecordKind.numbers B.RecordKind.numbers self.old) }
+        ensures sections { both A.numbers B.numbers self.new ≡ after A.means B.means (call_of command.now) (both A.numbers B.numbers self.old) }
         ensures slots { SameSlots self.new self.old }
     {
         match command {
@@ -155,10 +155,10 @@ impl<'a, A: SheetKind, B: SheetKind> Recipe<'a, A, B> {
 
     // Writes the sheet into the buffer's first bytes, and answers how many it has.
     pub fn write(&self, out: &mut [u8]) -> Result<usize, TooShort>
-        ensures sheet { Writes (frame A.RecordKind.means (live (both A.RecordKind.numbers B.RecordKind.numbers self.now).one) ++ frame B.RecordKind.means (live (both A.RecordKind.numbers B.RecordKind.numbers self.now).two))
+        ensures sheet { Writes (frame A.means (live (both A.numbers B.numbers self.now).one) ++ frame B.means (live (both A.numbers B.numbers self.now).two))
             out.old (wrote result) out.new }
-        ensures history { (m n : ℕ) (h : History) → Reached (over A.RecordKind.means B.RecordKind.means m n) h (both A.RecordKind.numbers B.RecordKind.numbers self.now)
-            → WritesSheet (over A.RecordKind.means B.RecordKind.means m n) h out.old (wrote result) out.new }
+        ensures history { (m n : ℕ) (h : History) → Reached (over A.means B.means m n) h (both A.numbers B.numbers self.now)
+            → WritesSheet (over A.means B.means m n) h out.old (wrote result) out.new }
     {
         write_sheet(
             &self.first[..self.first_count],
@@ -169,7 +169,7 @@ impl<'a, A: SheetKind, B: SheetKind> Recipe<'a, A, B> {
 
     // How many bytes the first section's frame has.
     pub(crate) fn first_frame_size(&self) -> usize
-        ensures { result ≡ length (frame A.RecordKind.means (live (both A.RecordKind.numbers B.RecordKind.numbers self.now).one)) }
+        ensures { result ≡ length (frame A.means (live (both A.numbers B.numbers self.now).one)) }
     {
         frame_size::<A>(self.first_count)
     }

@@ -6,6 +6,7 @@ ghost use Rattle.recipes.specs.Rows.{section_of, refused_of};
 ghost use Rattle.recipes.specs.declared.refusal.RecipeRefusal.TheVariants.{Line};
 
 use records::refusal::Refusal;
+use std::error::Error;
 use std::fmt;
 
 // Which of a recipe's two sections.
@@ -28,13 +29,13 @@ impl Which {
 }
 
 // A section, and how many of its records are live.
-#[derive(Debug, Clone, Copy)]
+#[derive(Debug, Clone, Copy, PartialEq, Eq)]
 pub struct Counted {
     pub section: Which,
     pub count: usize,
 }
 
-#[derive(Debug, Clone, Copy)]
+#[derive(Debug, Clone, Copy, PartialEq, Eq)]
 pub enum RecipeRefusal<'a> {
     // the line reads as no record
     Line(Refusal<'a>),
@@ -75,7 +76,7 @@ impl<'a> From<Refusal<'a>> for RecipeRefusal<'a> {
 }
 
 impl fmt::Display for RecipeRefusal<'_> {
-    fn fmt<W: fmt::Write>(&self, f: &mut fmt::Formatter<W>) -> Result<(), fmt::Error> {
+    fn fmt<W: fmt::Write>(&self, f: &mut fmt::Formatter<W>) -> fmt::Result {
         match self {
             RecipeRefusal::Line(refusal) => write!(f, "{refusal}"),
             RecipeRefusal::Full => write!(f, "the section has no free slot for the record"),
@@ -83,3 +84,5 @@ impl fmt::Display for RecipeRefusal<'_> {
         }
     }
 }
+
+impl Error for RecipeRefusal<'_> {}

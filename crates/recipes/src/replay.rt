@@ -26,12 +26,12 @@ pub fn replay<A: SheetKind, B: SheetKind>(
     second: &mut [B],
     out: &mut [u8],
 ) -> Result<usize, TooShort>
-    ensures sheet { WritesSheet (over A.RecordKind.means B.RecordKind.means (length first.old) (length second.old)) (making commands.now []) out.old (wrote result) out.new }
-    ensures first { map A.RecordKind.numbers first.new
-        ≡ (after_all A.RecordKind.means B.RecordKind.means (making commands.now []) (begun (map A.RecordKind.numbers first.old) (map B.RecordKind.numbers second.old))).one.slots }
-    ensures second { map B.RecordKind.numbers second.new
-        ≡ (after_all A.RecordKind.means B.RecordKind.means (making commands.now []) (begun (map A.RecordKind.numbers first.old) (map B.RecordKind.numbers second.old))).two.slots }
-    ensures sheets_identify_recipes { SheetsIdentifyRecipes A.RecordKind.means B.RecordKind.means }
+    ensures sheet { WritesSheet (over A.means B.means (length first.old) (length second.old)) (making commands.now []) out.old (wrote result) out.new }
+    ensures first { map A.numbers first.new
+        ≡ (after_all A.means B.means (making commands.now []) (begun (map A.numbers first.old) (map B.numbers second.old))).one.slots }
+    ensures second { map B.numbers second.new
+        ≡ (after_all A.means B.means (making commands.now []) (begun (map A.numbers first.old) (map B.numbers second.old))).two.slots }
+    ensures sheets_identify_recipes { SheetsIdentifyRecipes A.means B.means }
 {
     let mut recipe = Recipe::open(first, second);
     for command in commands {

@@ -1,11 +1,11 @@
 // A section: live records of one kind, in rising order, in the first of the slots that the caller
-// lends. One text for every record kind; each method passes the slots to one function.
+// lends. One text for every record kind; its methods pass the slots to functions.
 ghost use Rattle.std.specs.Prelude.{◌≡◌, ◌≤◌, cond, not, length, Some as Given, None as Nothing};
 ghost use Rattle.model.specs.History.{usable};
 ghost use Rattle.recipes.specs.Rows.{seen};
 ghost use Rattle.recipes.specs.Slots.{live, is_among, turns_away, entered, struck};
 
-use crate::slots::{enter_among, strike_among};
+use crate::slots::{MOST, insert_at, look_up, remove_at};
 use records::kind::RecordKind;
 
 #[derive(Drop)]
@@ -23,8 +23,16 @@ impl<'a, R: RecordKind> Section<'a, R> {
         ensures state { seen R.numbers self.new.slots.now self.new.count ≡ entered R.means (R.numbers row) (seen R.numbers self.old.slots.now self.old.count) }
         ensures slots { self.new.slots.ghost_name ≡ self.old.slots.ghost_name }
     {
-        self.count = enter_among(self.slots, self.count, row)?;
-        Some(self.count)
+        let slots = &mut *self.slots;
+        match look_up(&slots[..self.count], &row) {
+            Ok(_) => Some(self.count),
+            Err(_) if self.count == slots.len().min(MOST) => None,
+            Err(p) => {
+                insert_at(slots, self.count, p, row);
+                self.count += 1;
+                Some(self.count)
+            }
+        }
     }
 
     // Takes the row out, and answers how many then are live, or `None` where it is not.
@@ -34,7 +42,10 @@ impl<'a, R: RecordKind> Section<'a, R> {
         ensures state { seen R.numbers self.new.slots.now self.new.count ≡ struck R.means (R.numbers row) (seen R.numbers self.old.slots.now self.old.count) }
         ensures slots { self.new.slots.ghost_name ≡ self.old.slots.ghost_name }
     {
-        self.count = strike_among(self.slots, self.count, row)?;
+        let slots = &mut *self.slots;
+        let p = look_up(&slots[..self.count], &row).ok()?;
+        remove_at(slots, self.count, p);
+        self.count -= 1;
         Some(self.count)
     }
 }

@@ -14,20 +14,20 @@ use records::reader::LineReader;
 use sheets::TooShort;
 
 // How many bytes each frame of a sheet has.
-#[derive(Debug, Clone, Copy)]
+#[derive(Debug, Clone, Copy, PartialEq, Eq)]
 pub struct FrameLengths {
     pub first: usize,
     pub second: usize,
 }
 
 // A line that is refused, by its number, counted from 1 with empty lines.
-#[derive(Debug, Clone, Copy)]
+#[derive(Debug, Clone, Copy, PartialEq, Eq)]
 pub struct RefusedLine<'t> {
     pub line: usize,
     pub refusal: RecipeRefusal<'t>,
 }
 
-#[derive(Debug, Clone, Copy)]
+#[derive(Debug, Clone, Copy, PartialEq, Eq)]
 pub enum TextRefusal<'t> {
     // the first line that is refused
     Line(RefusedLine<'t>),
@@ -56,9 +56,9 @@ fn enter_lines<'t, A: SheetKind, B: SheetKind>(
     text: &'t [u8],
     recipe: &mut Recipe<A, B>,
 ) -> Result<(), RefusedLine<'t>>
-    ensures lines { (taken : List (List ℕ)) × Ran A.RecordKind.means B.RecordKind.means (lines_of text.now) (both A.RecordKind.numbers B.RecordKind.numbers recipe.old) taken result
-        × (both A.RecordKind.numbers B.RecordKind.numbers recipe.new
-        ≡ after_all A.RecordKind.means B.RecordKind.means (entering taken []) (both A.RecordKind.numbers B.RecordKind.numbers recipe.old)) }
+    ensures lines { (taken : List (List ℕ)) × Ran A.means B.means (lines_of text.now) (both A.numbers B.numbers recipe.old) taken result
+        × (both A.numbers B.numbers recipe.new
+        ≡ after_all A.means B.means (entering taken []) (both A.numbers B.numbers recipe.old)) }
     ensures slots { SameSlots recipe.new recipe.old }
 {
     for (i, line) in LineReader::new(text).enumerate() {
@@ -80,8 +80,8 @@ pub fn enter_text<'t, A: SheetKind, B: SheetKind>(
     second: &mut [B],
     out: &mut [u8],
 ) -> Result<FrameLengths, TextRefusal<'t>>
-    ensures { TakesText A.RecordKind.means B.RecordKind.means (map A.RecordKind.numbers first.old) (map B.RecordKind.numbers second.old) text.now out.old
-        (ending_of result) (map A.RecordKind.numbers first.new) (map B.RecordKind.numbers second.new) out.new }
+    ensures { TakesText A.means B.means (map A.numbers first.old) (map B.numbers second.old) text.now out.old
+        (ending_of result) (map A.numbers first.new) (map B.numbers second.new) out.new }
 {
     let mut recipe = Recipe::open(first, second);
     enter_lines(text, &mut recipe)?;
