@@ -19,7 +19,7 @@ fn main(rt: HostRuntime) -> anyhow::Result<()> {
     let mut limits = vec![in rt.alloc(); LimitRow::default(); SLOTS_MOST]?;
     let mut out = vec![in rt.alloc(); 0; BUFFER_LEAST]?;
     if let Ok(size) = key_sheet(&text, &mut steps, &mut limits, &mut out) {
-        rt.stdout().write_all(&out[0..size])?;
+        rt.stdout().write_all(&out[..size])?;
     }
     Ok(())
 }

@@ -17,6 +17,7 @@ pub struct Account {
 }
 
 impl Account {
+    // `Default` cannot be derived beside a ghost field.
     pub fn new() -> Account
         ensures { result.lines ≡ 0 }
     {

@@ -34,12 +34,12 @@ impl Account {
         count(&mut self.unread);
     }
 
-    pub fn compared(&mut self, agrees: bool) {
-        count(if agrees {
-            &mut self.agree
-        } else {
-            &mut self.disagree
-        });
+    pub fn agrees(&mut self) {
+        count(&mut self.agree);
+    }
+
+    pub fn disagrees(&mut self) {
+        count(&mut self.disagree);
     }
 }
 

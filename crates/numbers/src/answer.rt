@@ -34,7 +34,7 @@ impl fmt::Display for Part {
     }
 }
 
-// An enum, and no `Result`, so that it is printed and compared as the one line that it is.
+// An enum, and no `Result`, so that `Display` writes it whole.
 #[derive(Clone, Copy, PartialEq, Eq)]
 pub enum Answer {
     Ok(i128, Option<usize>),

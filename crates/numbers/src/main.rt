@@ -47,9 +47,12 @@ fn respond<W: Write>(
         Ok((answer, Some(expected))) => {
             account.answered(&answer);
             let text = format!(in heap; "{answer}")?;
-            let agrees = text.as_bytes() == expected;
-            account.compared(agrees);
-            print_compared(text.as_str(), agrees, expected, out)
+            if text.as_bytes() == expected {
+                account.agrees();
+                return writeln!(out, "{text} agrees");
+            }
+            account.disagrees();
+            print_disagreement(text.as_str(), expected, out)
         }
         Err(reason) => {
             account.unread();
@@ -66,15 +69,7 @@ fn answered<'a>(heap: Global, line: &'a [u8]) -> Result<(Answer, Option<&'a [u8]
 }
 
 // The expected answer may hold any bytes, so it is written as they stand.
-fn print_compared<W: Write>(
-    text: &str,
-    agrees: bool,
-    expected: &[u8],
-    out: &mut W,
-) -> io::Result<()> {
-    if agrees {
-        return writeln!(out, "{text} agrees");
-    }
+fn print_disagreement<W: Write>(text: &str, expected: &[u8], out: &mut W) -> io::Result<()> {
     write!(out, "{text} disagrees, expected ")?;
     out.write_all(expected)?;
     out.write_all(b"\n")

@@ -4,8 +4,9 @@
 // on with ` => ANSWER`. CALL is one of the library's six calls. TYPE is u8 to u64 or i8 to i64.
 // SKIPS is `z` or `-`, then `p` or `-`: whether zeros and a plus in front are skipped. TEXT is what
 // is to be read, as it stands, or `hex:` and two hexadecimal digits for each of its bytes.
-ghost use Rattle.std.specs.Prelude.{◌≡◌, ◌+◌, ◌<◌, length, IfOk, IfSome};
+ghost use Rattle.std.specs.Prelude.{◌≡◌, ◌+◌, length, IfSome};
 
+use hex::FromHexError;
 use std::alloc::{AllocError, AllocFailed, Global};
 use std::fmt;
 
@@ -136,6 +137,15 @@ impl<T: Drop> From<AllocFailed<T>> for Unread {
     }
 }
 
+impl From<FromHexError> for Unread {
+    fn from(e: FromHexError) -> Unread {
+        match e {
+            FromHexError::OutOfMemory => Unread::NoMemory,
+            _ => Unread::BadHexadecimal,
+        }
+    }
+}
+
 #[derive(Drop)]
 pub struct Question<'a> {
     pub call: Call,
@@ -171,7 +181,8 @@ impl Question<'_> {
     }
 }
 
-// The bytes before and after the first place at which the mark stands.
+// The bytes before and after the first place at which the mark stands, by parts: a library would be
+// for this alone.
 fn cut<'a>(line: &'a [u8], mark: &[u8]) -> Option<(&'a [u8], &'a [u8])>
     ensures { IfSome result (λ p. length p.0.now + length mark.now + length p.1.now ≡ length line.now) }
 {
@@ -192,28 +203,8 @@ fn first_word(line: &[u8]) -> (&[u8], &[u8]) {
 // The bytes that a TEXT stands for.
 fn bytes_of(heap: Global, text: &[u8]) -> Result<Vec<u8>, Unread> {
     match text.strip_prefix(b"hex:") {
-        Some(digits) => decoded(heap, digits),
+        Some(digits) => Ok(hex::decode(heap, digits)?),
         None if text.is_empty() => Err(Unread::NoText),
         None => Ok(text.to_vec(heap)?),
     }
-}
-
-// A byte for each two hexadecimal digits.
-fn decoded(heap: Global, digits: &[u8]) -> Result<Vec<u8>, Unread> {
-    let mut bytes = Vec::new(heap);
-    for pair in digits.chunks(2) {
-        let [high, low] = pair else {
-            return Err(Unread::BadHexadecimal);
-        };
-        bytes.push(digit(*high)? << 4 | digit(*low)?)?;
-    }
-    Ok(bytes)
-}
-
-// The value of a hexadecimal digit.
-fn digit(byte: u8) -> Result<u8, Unread>
-    ensures { IfOk result (λ v. v < 16) }
-{
-    let value = char::from(byte).to_digit(16).ok_or(Unread::BadHexadecimal)?;
-    Ok(value as u8)
 }

@@ -1,7 +1,7 @@
 // Text put into a buffer: words, decimal numbers, and bytes in hexadecimal.
 //
-// The place goes beside the buffer, which is the caller's, since each text stands behind another.
-ghost use Rattle.std.specs.Prelude.{◌≡◌, ◌+◌, ◌*◌, ◌<◌, ◌≤◌, List, length, take, drop, decimal};
+// The place goes beside the buffer: each text is put where the one before it ends.
+ghost use Rattle.std.specs.Prelude.{◌≡◌, ◌+◌, ◌*◌, ◌<◌, ◌≤◌, length, take, drop, decimal};
 ghost use Rattle.records.specs.Payload.{put};
 ghost use Rattle.station.specs.Output.{hex_digit, hex_of, refusal_line};
 

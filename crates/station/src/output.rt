@@ -7,14 +7,14 @@ ghost use Rattle.station.specs.Output.{sheet_lines, Gives, PutsOut};
 
 use crate::digits::{put_refusal, put_text, spread};
 use bench::{LimitRow, StepRow};
-use recipes::{TextRefusal, enter_text};
+use recipes::{FrameLengths, TextRefusal, enter_text};
 use records::kind::LineKind;
 use sheets::TooShort;
 
 // The longest text that is read.
 pub const TEXT_MOST: usize = 32768;
 
-// The refusal of a longer one, on line 0.
+// The refusal of a longer one, on line 0, by the number that is printed.
 const TEXT_TOO_LONG: u8 = 19;
 
 // The most slots of a section that are used.
@@ -25,16 +25,16 @@ pub const BUFFER_LEAST: usize = 65536;
 
 // Turns the sheet at the buffer's front, whose frames have these lengths, into its two lines, and
 // answers how many bytes they have.
-fn put_sheet(out: &mut [u8], first: usize, second: usize) -> usize
-    requires { 2 * first + 2 * second + 2 ≤ length out.old }
-    ensures after { out.new ≡ sheet_lines (take first out.old) (take second (drop first out.old)) ++ drop result out.old }
-    ensures len { result ≡ 2 * first + 2 * second + 2 }
+fn put_sheet(out: &mut [u8], frames: FrameLengths) -> usize
+    requires { 2 * frames.first + 2 * frames.second + 2 ≤ length out.old }
+    ensures after { out.new ≡ sheet_lines (take frames.first out.old) (take frames.second (drop frames.first out.old)) ++ drop result out.old }
+    ensures len { result ≡ 2 * frames.first + 2 * frames.second + 2 }
 {
-    let middle = 2 * first + 1;
-    spread(out, first, second, middle);
-    let end = put_text(out, middle + 2 * second, b"\n");
-    put_text(out, 2 * first, b"\n");
-    spread(out, 0, first, 0);
+    let middle = 2 * frames.first + 1;
+    spread(out, frames.first, frames.second, middle);
+    let end = put_text(out, middle + 2 * frames.second, b"\n");
+    put_text(out, 2 * frames.first, b"\n");
+    spread(out, 0, frames.first, 0);
     end
 }
 
@@ -50,7 +50,7 @@ fn put_output(text: &[u8], steps: &mut [StepRow], limits: &mut [LimitRow], out: 
         return put_refusal(out, 0, TEXT_TOO_LONG, 0);
     }
     match enter_text(text, steps, limits, out) {
-        Ok(frames) => put_sheet(out, frames.first, frames.second),
+        Ok(frames) => put_sheet(out, frames),
         Err(TextRefusal::Line(l)) => {
             put_refusal(out, l.line, l.refusal.number(), l.refusal.place())
         }

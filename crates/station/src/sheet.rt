@@ -20,7 +20,7 @@ pub struct BenchSheet<'a> {
     ghost whole: { IfOk sheet (λ s. s.bytes.now ≡ bytes.now) } by { Prim.hlevel props },
 }
 
-// A record of the bench.
+// A record of the bench. Its names say which, as those of `Named` do not.
 #[derive(Drop)]
 pub enum BenchRecord {
     OfStep(StepRow),
@@ -45,7 +45,7 @@ impl<'a> BenchSheet<'a> {
         self.sheet.map(|sheet| sheet.counts())
     }
 
-    // Record `i` of section 1 or 2, counted from 0.
+    // Record `i` of section 1 or 2, counted from 0. A section that is neither is refused.
     pub fn record(&self, section: u8, i: usize) -> Result<BenchRecord, SheetRefusal>
         ensures { read_by record_means result ≡ record_of_sheet self.now.bytes.now section i }
     {
