@@ -90,6 +90,7 @@ pub(crate) fn parse_fb_pos(
 {
     let mut rest = s;
     let mut skipped = 0;
+    // no `for`: it starts again with what is left, and ends with a value and a length
     let (val, len) = loop {
         match parse_16_by_8(rest, skip_zeroes) {
             EarlyReturn::Ok((v, l, zeroes)) => {
@@ -164,6 +165,7 @@ pub(crate) fn parse_fb_64_pos(
 {
     let mut rest = s;
     let mut skipped = 0;
+    // no `for`: it starts again with what is left
     loop {
         let (val, zeroes) = match parse_16_by_8(rest, skip_zeroes) {
             EarlyReturn::Ok((v, _, z)) => (v, z),

@@ -6,8 +6,8 @@
 // checked calls (`parse`, `parse_pos`, `parse_neg`) want all bytes to be digits; the prefix
 // calls stop behind the last digit and say how many bytes they have read.
 //
-// `skip_zeroes` and `skip_plus` are const arguments in the ported crate. A trait's method takes none
-// here, so they are plain ones.
+// `skip_zeroes` and `skip_plus` are const arguments in the ported crate. A trait's method takes
+// none here, so they are plain ones.
 #![tactic(auto)]
 
 ghost use Rattle.std.specs.Prelude.{◌≡◌, true, false, length};

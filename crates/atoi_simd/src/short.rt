@@ -23,7 +23,7 @@ pub(crate) fn parse_short_pos(s: &[u8], max: u64) -> Result<(u64, usize), AtoiSi
         return Err(AtoiSimdError::Empty);
     };
     let mut res = (first & 0xF) as u64;
-    // by index: to enumerate what is behind the first digit takes 6 to 9 % more on short texts
+    // by index: to enumerate what is behind the first digit takes 6 to 9 % more instructions
     for i in 1..s.len() {
         let c = s[i];
         if !c.is_ascii_digit() {

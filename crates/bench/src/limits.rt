@@ -45,6 +45,7 @@ impl RecordKind for LimitRow {
         self.low <= self.high
     }
 
+    // by its run, which not every kind need be
     fn compare(&self, other: &LimitRow) -> Ordering {
         self.run().compare(&other.run())
     }
@@ -106,7 +107,8 @@ impl From<Limit> for LimitRow {
 }
 
 impl Limit {
-    // The limit that the row stands for, if its temperatures are in order.
+    // The limit that the row stands for, if its temperatures are in order. This and `row` are the
+    // conversions by name, for callers that want no fault.
     pub fn of_row(row: LimitRow) -> Option<Limit>
         ensures { MatchOption result (row.high <ℤ row.low) (λ l. (l.lever ≡ row.lever) × (l.low ≡ row.low) × (l.high ≡ row.high)) }
     {

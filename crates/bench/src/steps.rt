@@ -48,6 +48,7 @@ impl RecordKind for StepRow {
         true
     }
 
+    // by its run, which not every kind need be
     fn compare(&self, other: &StepRow) -> Ordering {
         self.run().compare(&other.run())
     }

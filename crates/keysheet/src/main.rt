@@ -1,5 +1,5 @@
-// Reads a recipe text from standard input, and prints its output: the two frames of its key sheet in
-// hexadecimal, a line each, or the line of its first refusal. Nothing else is printed.
+// Reads a recipe text from standard input, and prints its output: the two frames of its key sheet
+// in hexadecimal, a line each, or the line of its first refusal. Nothing else is printed.
 //
 // No more of the input is read than one byte past the longest text, which is enough to know that it
 // is too long.

@@ -1,5 +1,5 @@
-// What is said of a line: that it is empty, which record it is, or why it is refused. Each has a name
-// here, as each has a column in the account.
+// What is said of a line: that it is empty, which record it is, or why it is refused. Each has a
+// name here, as each has a column in the account.
 ghost use Rattle.std.specs.Prelude.{◌≡◌};
 ghost use Rattle.linecheck.specs.Said.{said};
 ghost use Rattle.linecheck.specs.Verdicts.{said_by};

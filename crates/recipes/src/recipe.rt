@@ -1,5 +1,6 @@
-// Two sections, of one record kind each, and the calls on them. A section is live records of one kind,
-// in rising order, in the first of the slots that the caller lends, and how many of them are live.
+// Two sections, of one record kind each, and the calls on them. A section is live records of one
+// kind, in rising order, in the first of the slots that the caller lends, and how many of them are
+// live.
 ghost use Rattle.std.specs.Prelude.{◌≡◌, ℕ, ◌≤◌, [], ◌++◌, map, length, ok_or};
 ghost use Rattle.records.specs.Meaning.{named_by};
 ghost use Rattle.records.specs.Outcome.{got};
@@ -18,7 +19,8 @@ use records::kind::{LineKind, RecordKind, SheetKind};
 use records::line::{Named, read_line};
 use sheets::{TooShort, frame_size, write_sheet};
 
-// Slots and counts, and no `Section`s, as callers learn nothing of a `&mut` in a struct within a struct.
+// Slots and counts, and no `Section`s, as callers learn nothing of a `&mut` in a struct within a
+// struct.
 #[derive(Drop)]
 pub struct Recipe<'a, A, B> {
     first: &'a mut [A],
@@ -33,7 +35,8 @@ impl<'a, A: SheetKind, B: SheetKind> Recipe<'a, A, B> {
     // `SameSlots` is on each call that changes a recipe: by it alone does a caller know its slots.
     ghost use Rattle.recipes.specs.Rows.{both, told, SameSlots};
 
-    // An empty recipe over two runs of slots, whatever they hold. They are two, as their rows differ.
+    // An empty recipe over two runs of slots, whatever they hold. They are two, as their rows
+    // differ.
     pub fn open(first: &'a mut [A], second: &'a mut [B]) -> Recipe<'a, A, B>
         ensures sections { both A.numbers B.numbers result ≡ begun (map A.numbers first.old) (map B.numbers second.old) }
         ensures history { Reached (over A.means B.means (length first.old) (length second.old)) [] (both A.numbers B.numbers result) }
@@ -73,8 +76,8 @@ impl<'a, A: SheetKind, B: SheetKind> Recipe<'a, A, B> {
         Some(Counted { section, count })
     }
 
-    // Takes the row out of its section, or answers `None` where it is not live.
-    // It is not one with `enter_row`: a step on a section of either kind would be a trait, and longer.
+    // Takes the row out of its section, or answers `None` where it is not live. It is not one with
+    // `enter_row`: a step on a section of either kind would be a trait, and longer.
     fn strike_row(&mut self, row: Named<A, B>) -> Option<Counted>
         ensures answer { told (ok_or result RecipeRefusal.NotLive) ≡ answered_by strike_in A.means B.means
             (got (named_by A.numbers B.numbers row)) (both A.numbers B.numbers self.old) }

@@ -19,7 +19,8 @@ pub enum Command<'a> {
     Clear,
 }
 
-// Opens a recipe on the slots, makes the calls in turn, refused ones too, and writes the sheet.
+// Opens a recipe on the two runs of slots, one of each kind's rows, makes the calls in turn,
+// refused ones too, and writes the sheet.
 pub fn replay<A: SheetKind, B: SheetKind>(
     commands: &[Command],
     first: &mut [A],

@@ -29,7 +29,8 @@ pub(crate) fn look_up<R: RecordKind>(rows: &[R], row: &R) -> Result<usize, usize
     }
 }
 
-// Puts `row` at place `p` of the first `n` rows. The count goes beside all rows, as one behind is taken.
+// Puts `row` at place `p` of the first `n` rows. The count goes beside all rows, as one behind is
+// taken.
 pub(crate) fn insert_at<R: RecordKind>(rows: &mut [R], n: usize, p: usize, row: R)
     requires { (p ≤ n) × (n < length rows.old) }
     ensures { rows.new ≡ with_entered rows.old n p row }

@@ -72,8 +72,9 @@ fn enter_lines<'t, A: SheetKind, B: SheetKind>(
     Ok(())
 }
 
-// Opens a recipe on the slots, enters the lines of the text in turn, empty ones left out, and writes
-// the sheet into the buffer's first bytes; or says which line is refused first, and why.
+// Opens a recipe on the two runs of slots, one of each kind's rows, enters the lines of the text in
+// turn, empty ones left out, and writes the sheet into the buffer's first bytes; or says which line
+// is refused first, and why.
 pub fn enter_text<'t, A: SheetKind, B: SheetKind>(
     text: &'t [u8],
     first: &mut [A],

@@ -3,6 +3,8 @@
 // The lower part, `RecordKind`, has the numbers, their types, the condition and the order; the
 // upper part, `LineKind`, adds the word. A row is plain: nothing in its type keeps the condition.
 // Above both, `SheetKind` adds what a sheet wants.
+//
+// Places are offsets in the whole line or buffer, and so go beside it.
 ghost use Rattle.std.specs.Prelude.{◌≡◌, List, length, ℤ};
 ghost use Rattle.records.specs.Kind.{Kind, Lawful, ordering};
 ghost use Rattle.records.specs.Line.{read_behind};
@@ -32,8 +34,8 @@ pub trait RecordKind: Sized + Copy {
     fn meets_condition(&self) -> bool
         ensures { result ≡ means.condition (numbers self.now) };
 
-    // Which of two records comes first, or that they are equal. Each kind says it, since its order need
-    // not be that of its run.
+    // Which of two records comes first, or that they are equal. Each kind says it, since its order
+    // need not be that of its run.
     fn compare(&self, other: &Self) -> Ordering
         ensures { result ≡ ordering means (numbers self.now) (numbers other.now) };
 

@@ -65,7 +65,8 @@ pub trait Numbers: Sized + Drop {
 
     ghost list: { Self → List ℤ };
 
-    // Which of two runs comes first, number by number.
+    // Which of two runs comes first, number by number. It is no `Ord`, with which a struct over two
+    // kinds has no proof.
     fn compare(&self, other: &Self) -> Ordering
         ensures { result ≡ order_by lex_before (list self.now) (list other.now) };
 
@@ -108,7 +109,7 @@ impl<T: Field, R: Numbers> Numbers for (T, R) {
     }
 }
 
-// By hand for each type, as a macro may hold no ghost item.
+// By hand for each type, as a macro may hold no ghost item, and a width is each type's own.
 impl Field for u8 {
     const WIDTH: usize = size_of::<u8>();
 

@@ -4,8 +4,8 @@
 // Both ways are total. A run that finds no room is not written at all, and of a payload that is
 // too short the missing bytes count as 0.
 //
-// `out` and `at` go side by side: a part of `out` from the place on is not there where the place lies
-// past the end.
+// `out` and `at` go side by side: a part of `out` from the place on is not there where the place
+// lies past the end.
 ghost use Rattle.std.specs.Prelude.{◌≡◌, ◌+◌, ◌-◌, ◌%◌, ◌^◌, ◌≤◌, min, length};
 ghost use Rattle.std.proofs.Common.{rules};
 ghost use Rattle.std.specs.List.{AllByRecursion};
@@ -85,7 +85,7 @@ impl<T: PayloadField, R: Payload> Payload for (T, R) {
     }
 }
 
-// By hand for each type, as a macro may hold no ghost item.
+// By hand for each type, as a macro may hold no ghost item, and the casts are each type's own.
 impl PayloadField for u8 {
     ghost few = { Prim.search rules };
 

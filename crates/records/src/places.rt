@@ -2,8 +2,8 @@
 ghost use Rattle.std.specs.Prelude.{◌≡◌, ◌≤◌, ◌==◌, not, length, drop};
 ghost use Rattle.std.specs.List.{prefix_len};
 
-// How many bytes at the front are `byte`. It is not one with the next, whose test a closure would only
-// say again at each call.
+// How many bytes at the front are `byte`. It is not one with the next, whose test a closure would
+// only say again at each call.
 pub(crate) fn count_of(bytes: &[u8], byte: u8) -> usize
     ensures value { result ≡ prefix_len (λ b. b == byte) bytes.now }
     ensures bound { result ≤ length bytes.now }

@@ -1,4 +1,6 @@
-// What a frame begins with, and how many bytes a record of it has. Places are offsets in the whole sheet.
+// What a frame begins with, and how many bytes a record of it has.
+//
+// Places are offsets in the whole sheet, and a kind's number is what stands there.
 ghost use Rattle.std.specs.Prelude.{◌≡◌, ◌+◌, ◌≤◌, ◌++◌, length};
 ghost use Rattle.words.specs.Bytes.{bytes_le};
 ghost use Rattle.records.specs.Payload.{payload_size, put};

@@ -97,7 +97,8 @@ fn row_in<K: LineKind>(bytes: &[u8], from: usize, i: usize) -> Result<K, SheetRe
 }
 
 // Record `i` of section 1 or 2, counted from 0, in bytes that were checked to be a sheet of so many
-// records. A section is asked for by its number, since one that is neither is refused.
+// records; a `CheckedSheet` has them together. A section is asked for by its number, since one that
+// is neither is refused.
 pub fn find_record<A: LineKind, B: LineKind>(
     bytes: &[u8],
     first: usize,
@@ -165,7 +166,7 @@ impl<'a, A: SheetKind, B: SheetKind> CheckedSheet<'a, A, B> {
         (self.first, self.second)
     }
 
-    // Record `i` of section 1 or 2, counted from 0.
+    // Record `i` of section 1 or 2, counted from 0. A section that is neither is refused.
     pub fn record(&self, section: u8, i: usize) -> Result<Named<A, B>, SheetRefusal>
         ensures value { read_by (named_by A.numbers B.numbers) result
             ≡ record_in A.means B.means self.now.bytes.now self.now.first self.now.second section i }

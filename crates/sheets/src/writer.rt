@@ -1,6 +1,7 @@
 // Frames and sheets, written into a buffer that the caller lends.
 //
-// A place goes beside the buffer: a frame is put where the one before it ends, as the definition says.
+// A place goes beside the buffer: a frame is put where the one before it ends, as the definition
+// says.
 ghost use Rattle.std.specs.Prelude.{◌≡◌, ◌+◌, ◌-◌, ◌*◌, ◌^◌, ◌≤◌, min, ◌++◌, map, length};
 ghost use Rattle.records.specs.Payload.{payload_size, put};
 ghost use Rattle.model.specs.Sheet.{payloads, frame, Writes};

@@ -50,8 +50,8 @@ pub(crate) fn spread(out: &mut [u8], from: usize, len: usize, to: usize)
     }
 }
 
-// Puts the line that says which line is refused, why and where, at the buffer's front, and answers
-// how many bytes it has.
+// Puts the line that says which line is refused, why and where, all by the numbers that are
+// printed, at the buffer's front, and answers how many bytes it has.
 pub(crate) fn put_refusal(out: &mut [u8], line: usize, number: u8, place: usize) -> usize
     requires { 100 ≤ length out.old }
     ensures after { out.new ≡ put out.old 0 (refusal_line line number place) }

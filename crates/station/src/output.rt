@@ -59,8 +59,8 @@ fn put_output(text: &[u8], steps: &mut [StepRow], limits: &mut [LimitRow], out: 
 }
 
 // The output of a recipe text: the two frames of its key sheet in hexadecimal, each with an LF, or
-// the line of the first refusal. It is put into the buffer's first bytes, and the answer is how many
-// they are. At most 1,024 of each section's slots are used.
+// the line of the first refusal. It is put into the buffer's first bytes, and the answer is how
+// many they are. At most 1,024 of each section's slots are used.
 pub fn key_sheet(
     text: &[u8],
     steps: &mut [StepRow],

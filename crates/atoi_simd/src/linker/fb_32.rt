@@ -12,7 +12,8 @@ use crate::error::AtoiSimdError;
 use crate::fallback::{parse_fb_checked_neg, parse_fb_neg};
 use crate::limit::{Limit, NarrowLimit};
 
-// What a signed type brings to be read with its value negated.
+// What a signed type brings to be read with its value negated. Its least number is a constant of
+// its own.
 trait NarrowSigned: Number {
     fn least() -> NarrowLimit
         ensures { result.max ≡ limit Self.means true };

@@ -72,6 +72,7 @@ impl Limited for i64 {
     }
 }
 
+// The impl in `fb_32` is for the narrow types; the readers of 64 bits have the ported crate's names.
 impl ParseNeg for i64 {
     fn atoi_simd_parse_neg(s: &[u8], skip_zeroes: bool) -> Result<i64, AtoiSimdError<'_>> {
         parse_fb_checked_64_neg(s, skip_zeroes)

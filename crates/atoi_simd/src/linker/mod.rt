@@ -100,7 +100,8 @@ pub trait Parse: ParsePos {
 }
 
 // The four readers of a sign that follow are not one: it would take each reader of digits as a
-// closure, and every caller would still name it.
+// closure, and every caller would still name it. Each answers what the call that ends in it
+// answers.
 
 // An unsigned number: a `+` may stand before it.
 fn atoi_simd_parse_unsigned<T: ParsePos>(
