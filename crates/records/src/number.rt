@@ -2,7 +2,6 @@
 //
 // A refusal's place is an offset in the whole line, so `line` and `at` go side by side.
 ghost use Rattle.std.specs.Prelude.{◌≡◌, ℕ, List, [], ◌∷◌, ℤ, int_lt};
-ghost use Rattle.std.proofs.Common.{rules};
 ghost use Rattle.records.specs.FieldType.{FieldType, in_bytes};
 ghost use Rattle.records.specs.Kind.{order_by};
 ghost use Rattle.records.specs.Lexicographic.{lex_before};
@@ -15,20 +14,16 @@ use atoi_simd::{Parse, parse_prefix};
 use std::cmp::Ordering;
 
 // A number type that a kind may list.
-pub trait Field: Parse + Ord + Drop {
+pub trait Field: Parse + Drop {
     // How many bytes a number takes in a payload.
     const WIDTH: usize;
 
     ghost WIDTH: { ℕ };
 
-    // Which of two numbers comes first.
+    // Which of two numbers comes first. Each type says it: by its `Ord`, it would ask one of every
+    // type that a kind may list, and a law of it.
     fn compare(&self, other: &Self) -> Ordering
-        ensures { result ≡ order_by int_lt (Self.number self.now) (Self.number other.now) }
-    {
-        self.cmp(other)
-    }
-
-    ghost orders: { (x y : Self) → Self.cmp x y ≡ order_by int_lt (Self.number x) (Self.number y) };
+        ensures { result ≡ order_by int_lt (Self.number self.now) (Self.number other.now) };
 }
 
 // The number that starts at the place, and the place behind it.
@@ -115,7 +110,9 @@ impl Field for u8 {
 
     ghost WIDTH = { 1 };
 
-    ghost orders = { Prim.search rules };
+    fn compare(&self, other: &u8) -> Ordering {
+        self.cmp(other)
+    }
 }
 
 impl Field for i8 {
@@ -123,7 +120,9 @@ impl Field for i8 {
 
     ghost WIDTH = { 1 };
 
-    ghost orders = { Prim.search rules };
+    fn compare(&self, other: &i8) -> Ordering {
+        self.cmp(other)
+    }
 }
 
 impl Field for u16 {
@@ -131,7 +130,9 @@ impl Field for u16 {
 
     ghost WIDTH = { 2 };
 
-    ghost orders = { Prim.search rules };
+    fn compare(&self, other: &u16) -> Ordering {
+        self.cmp(other)
+    }
 }
 
 impl Field for i16 {
@@ -139,7 +140,9 @@ impl Field for i16 {
 
     ghost WIDTH = { 2 };
 
-    ghost orders = { Prim.search rules };
+    fn compare(&self, other: &i16) -> Ordering {
+        self.cmp(other)
+    }
 }
 
 impl Field for u32 {
@@ -147,7 +150,9 @@ impl Field for u32 {
 
     ghost WIDTH = { 4 };
 
-    ghost orders = { Prim.search rules };
+    fn compare(&self, other: &u32) -> Ordering {
+        self.cmp(other)
+    }
 }
 
 impl Field for i32 {
@@ -155,7 +160,9 @@ impl Field for i32 {
 
     ghost WIDTH = { 4 };
 
-    ghost orders = { Prim.search rules };
+    fn compare(&self, other: &i32) -> Ordering {
+        self.cmp(other)
+    }
 }
 
 impl Field for u64 {
@@ -163,7 +170,9 @@ impl Field for u64 {
 
     ghost WIDTH = { 8 };
 
-    ghost orders = { Prim.search rules };
+    fn compare(&self, other: &u64) -> Ordering {
+        self.cmp(other)
+    }
 }
 
 impl Field for i64 {
@@ -171,5 +180,7 @@ impl Field for i64 {
 
     ghost WIDTH = { 8 };
 
-    ghost orders = { Prim.search rules };
+    fn compare(&self, other: &i64) -> Ordering {
+        self.cmp(other)
+    }
 }

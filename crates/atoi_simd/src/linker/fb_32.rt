@@ -1,12 +1,15 @@
 // The types of 8, 16 and 32 bits.
-ghost use Rattle.std.specs.Prelude.{◌≡◌, ◌≤ℤ◌, true, pos, neg_ℤ};
+ghost use Rattle.std.specs.Prelude.{◌≡◌, ◌≤ℤ◌, true, length, pos, neg_ℤ};
+ghost use Rattle.atoi_simd.specs.Answer.{prefix_by, checked_by};
+ghost use Rattle.atoi_simd.specs.Calls.{front, all, unsigned_call};
 ghost use Rattle.atoi_simd.specs.NumberType.{unsigned, signed, itself, limit};
 ghost use Rattle.atoi_simd.specs.WholeTypes.{unsigned_whole, signed_whole};
 ghost use Rattle.std.proofs.Common.{lit≤};
 
 use super::{
-    Limited, Number, Parse, ParseNeg, atoi_simd_parse_prefix_signed,
+    Limited, Number, Parse, ParseNeg, ParsePos, atoi_simd_parse_prefix_signed,
     atoi_simd_parse_prefix_unsigned, atoi_simd_parse_signed, atoi_simd_parse_unsigned,
+    parse_pos_limited, parse_prefix_pos_limited,
 };
 use crate::error::AtoiSimdError;
 use crate::fallback::{parse_fb_checked_neg, parse_fb_neg};
@@ -25,18 +28,22 @@ trait NarrowSigned: Number {
         ensures { Self.number result ≡ number };
 }
 
-impl<T: NarrowSigned> ParseNeg for T {
-    fn atoi_simd_parse_neg(s: &[u8], _skip_zeroes: bool) -> Result<T, AtoiSimdError<'_>> {
-        Ok(T::of_negated(parse_fb_checked_neg(s, T::least())?))
-    }
+// What `ParseNeg` hands on to, at each of these types, as `ParsePos` does.
+fn parse_neg_narrow<T: NarrowSigned>(s: &[u8], skip_zeroes: bool) -> Result<T, AtoiSimdError<'_>>
+    ensures { checked_by T.number (length s.now) result ≡ unsigned_call all T.means true skip_zeroes s.now }
+{
+    Ok(T::of_negated(parse_fb_checked_neg(s, T::least())?))
+}
 
-    fn atoi_simd_parse_prefix_neg(
-        s: &[u8],
-        skip_zeroes: bool,
-    ) -> Result<(T, usize), AtoiSimdError<'_>> {
-        let (val, len) = parse_fb_neg(s, T::least(), skip_zeroes)?;
-        Ok((T::of_negated(val), len))
-    }
+// The same at the front of a text.
+fn parse_prefix_neg_narrow<T: NarrowSigned>(
+    s: &[u8],
+    skip_zeroes: bool,
+) -> Result<(T, usize), AtoiSimdError<'_>>
+    ensures { prefix_by T.number result ≡ unsigned_call front T.means true skip_zeroes s.now }
+{
+    let (val, len) = parse_fb_neg(s, T::least(), skip_zeroes)?;
+    Ok((T::of_negated(val), len))
 }
 
 impl Number for u8 {
@@ -56,6 +63,19 @@ impl Limited for u8 {
 
     fn of(number: u64) -> u8 {
         number as u8
+    }
+}
+
+impl ParsePos for u8 {
+    fn atoi_simd_parse_pos(s: &[u8], skip_zeroes: bool) -> Result<u8, AtoiSimdError<'_>> {
+        parse_pos_limited(s, skip_zeroes)
+    }
+
+    fn atoi_simd_parse_prefix_pos(
+        s: &[u8],
+        skip_zeroes: bool,
+    ) -> Result<(u8, usize), AtoiSimdError<'_>> {
+        parse_prefix_pos_limited(s, skip_zeroes)
     }
 }
 
@@ -109,6 +129,32 @@ impl NarrowSigned for i8 {
     }
 }
 
+impl ParsePos for i8 {
+    fn atoi_simd_parse_pos(s: &[u8], skip_zeroes: bool) -> Result<i8, AtoiSimdError<'_>> {
+        parse_pos_limited(s, skip_zeroes)
+    }
+
+    fn atoi_simd_parse_prefix_pos(
+        s: &[u8],
+        skip_zeroes: bool,
+    ) -> Result<(i8, usize), AtoiSimdError<'_>> {
+        parse_prefix_pos_limited(s, skip_zeroes)
+    }
+}
+
+impl ParseNeg for i8 {
+    fn atoi_simd_parse_neg(s: &[u8], skip_zeroes: bool) -> Result<i8, AtoiSimdError<'_>> {
+        parse_neg_narrow(s, skip_zeroes)
+    }
+
+    fn atoi_simd_parse_prefix_neg(
+        s: &[u8],
+        skip_zeroes: bool,
+    ) -> Result<(i8, usize), AtoiSimdError<'_>> {
+        parse_prefix_neg_narrow(s, skip_zeroes)
+    }
+}
+
 impl Parse for i8 {
     fn atoi_simd_parse(
         s: &[u8],
@@ -144,6 +190,19 @@ impl Limited for u16 {
 
     fn of(number: u64) -> u16 {
         number as u16
+    }
+}
+
+impl ParsePos for u16 {
+    fn atoi_simd_parse_pos(s: &[u8], skip_zeroes: bool) -> Result<u16, AtoiSimdError<'_>> {
+        parse_pos_limited(s, skip_zeroes)
+    }
+
+    fn atoi_simd_parse_prefix_pos(
+        s: &[u8],
+        skip_zeroes: bool,
+    ) -> Result<(u16, usize), AtoiSimdError<'_>> {
+        parse_prefix_pos_limited(s, skip_zeroes)
     }
 }
 
@@ -197,6 +256,32 @@ impl NarrowSigned for i16 {
     }
 }
 
+impl ParsePos for i16 {
+    fn atoi_simd_parse_pos(s: &[u8], skip_zeroes: bool) -> Result<i16, AtoiSimdError<'_>> {
+        parse_pos_limited(s, skip_zeroes)
+    }
+
+    fn atoi_simd_parse_prefix_pos(
+        s: &[u8],
+        skip_zeroes: bool,
+    ) -> Result<(i16, usize), AtoiSimdError<'_>> {
+        parse_prefix_pos_limited(s, skip_zeroes)
+    }
+}
+
+impl ParseNeg for i16 {
+    fn atoi_simd_parse_neg(s: &[u8], skip_zeroes: bool) -> Result<i16, AtoiSimdError<'_>> {
+        parse_neg_narrow(s, skip_zeroes)
+    }
+
+    fn atoi_simd_parse_prefix_neg(
+        s: &[u8],
+        skip_zeroes: bool,
+    ) -> Result<(i16, usize), AtoiSimdError<'_>> {
+        parse_prefix_neg_narrow(s, skip_zeroes)
+    }
+}
+
 impl Parse for i16 {
     fn atoi_simd_parse(
         s: &[u8],
@@ -232,6 +317,19 @@ impl Limited for u32 {
 
     fn of(number: u64) -> u32 {
         number as u32
+    }
+}
+
+impl ParsePos for u32 {
+    fn atoi_simd_parse_pos(s: &[u8], skip_zeroes: bool) -> Result<u32, AtoiSimdError<'_>> {
+        parse_pos_limited(s, skip_zeroes)
+    }
+
+    fn atoi_simd_parse_prefix_pos(
+        s: &[u8],
+        skip_zeroes: bool,
+    ) -> Result<(u32, usize), AtoiSimdError<'_>> {
+        parse_prefix_pos_limited(s, skip_zeroes)
     }
 }
 
@@ -282,6 +380,32 @@ impl NarrowSigned for i32 {
 
     fn of_negated(number: i64) -> i32 {
         number as i32
+    }
+}
+
+impl ParsePos for i32 {
+    fn atoi_simd_parse_pos(s: &[u8], skip_zeroes: bool) -> Result<i32, AtoiSimdError<'_>> {
+        parse_pos_limited(s, skip_zeroes)
+    }
+
+    fn atoi_simd_parse_prefix_pos(
+        s: &[u8],
+        skip_zeroes: bool,
+    ) -> Result<(i32, usize), AtoiSimdError<'_>> {
+        parse_prefix_pos_limited(s, skip_zeroes)
+    }
+}
+
+impl ParseNeg for i32 {
+    fn atoi_simd_parse_neg(s: &[u8], skip_zeroes: bool) -> Result<i32, AtoiSimdError<'_>> {
+        parse_neg_narrow(s, skip_zeroes)
+    }
+
+    fn atoi_simd_parse_prefix_neg(
+        s: &[u8],
+        skip_zeroes: bool,
+    ) -> Result<(i32, usize), AtoiSimdError<'_>> {
+        parse_prefix_neg_narrow(s, skip_zeroes)
     }
 }
 

@@ -5,8 +5,9 @@ ghost use Rattle.atoi_simd.specs.WholeTypes.{unsigned_whole, signed_whole};
 ghost use Rattle.std.proofs.Common.{lit≤};
 
 use super::{
-    Limited, Number, Parse, ParseNeg, atoi_simd_parse_prefix_signed,
+    Limited, Number, Parse, ParseNeg, ParsePos, atoi_simd_parse_prefix_signed,
     atoi_simd_parse_prefix_unsigned, atoi_simd_parse_signed, atoi_simd_parse_unsigned,
+    parse_pos_limited, parse_prefix_pos_limited,
 };
 use crate::error::AtoiSimdError;
 use crate::fallback::{parse_fb_64_neg, parse_fb_checked_64_neg};
@@ -30,6 +31,19 @@ impl Limited for u64 {
 
     fn of(number: u64) -> u64 {
         number
+    }
+}
+
+impl ParsePos for u64 {
+    fn atoi_simd_parse_pos(s: &[u8], skip_zeroes: bool) -> Result<u64, AtoiSimdError<'_>> {
+        parse_pos_limited(s, skip_zeroes)
+    }
+
+    fn atoi_simd_parse_prefix_pos(
+        s: &[u8],
+        skip_zeroes: bool,
+    ) -> Result<(u64, usize), AtoiSimdError<'_>> {
+        parse_prefix_pos_limited(s, skip_zeroes)
     }
 }
 
@@ -72,7 +86,20 @@ impl Limited for i64 {
     }
 }
 
-// The impl in `fb_32` is for the narrow types; the readers of 64 bits have the ported crate's names.
+impl ParsePos for i64 {
+    fn atoi_simd_parse_pos(s: &[u8], skip_zeroes: bool) -> Result<i64, AtoiSimdError<'_>> {
+        parse_pos_limited(s, skip_zeroes)
+    }
+
+    fn atoi_simd_parse_prefix_pos(
+        s: &[u8],
+        skip_zeroes: bool,
+    ) -> Result<(i64, usize), AtoiSimdError<'_>> {
+        parse_prefix_pos_limited(s, skip_zeroes)
+    }
+}
+
+// The readers of 64 bits have the ported crate's names.
 impl ParseNeg for i64 {
     fn atoi_simd_parse_neg(s: &[u8], skip_zeroes: bool) -> Result<i64, AtoiSimdError<'_>> {
         parse_fb_checked_64_neg(s, skip_zeroes)

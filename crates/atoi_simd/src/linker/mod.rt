@@ -46,25 +46,33 @@ pub(crate) trait Limited: Number {
         ensures { Self.number result ≡ pos number };
 }
 
-impl<T: Limited> ParsePos for T {
-    fn atoi_simd_parse_pos(s: &[u8], skip_zeroes: bool) -> Result<T, AtoiSimdError<'_>> {
-        let val = match T::greatest() {
-            Limit::Narrow(limit) => parse_fb_checked_pos(s, limit)?,
-            Limit::Wide(limit) => parse_fb_checked_64_pos(s, limit, skip_zeroes)?,
-        };
-        Ok(T::of(val))
-    }
+// What `ParsePos` hands on to, at each type that has a limit. One impl for all of them would be a
+// second match at a type of one's own, and then a struct over a kind with such a number has no proof.
+pub(crate) fn parse_pos_limited<T: Limited>(
+    s: &[u8],
+    skip_zeroes: bool,
+) -> Result<T, AtoiSimdError<'_>>
+    ensures { checked_by T.number (length s.now) result ≡ unsigned_call all T.means false skip_zeroes s.now }
+{
+    let val = match T::greatest() {
+        Limit::Narrow(limit) => parse_fb_checked_pos(s, limit)?,
+        Limit::Wide(limit) => parse_fb_checked_64_pos(s, limit, skip_zeroes)?,
+    };
+    Ok(T::of(val))
+}
 
-    fn atoi_simd_parse_prefix_pos(
-        s: &[u8],
-        skip_zeroes: bool,
-    ) -> Result<(T, usize), AtoiSimdError<'_>> {
-        let (val, len) = match T::greatest() {
-            Limit::Narrow(limit) => parse_fb_pos(s, limit, skip_zeroes)?,
-            Limit::Wide(limit) => parse_fb_64_pos(s, limit, skip_zeroes)?,
-        };
-        Ok((T::of(val), len))
-    }
+// The same at the front of a text.
+pub(crate) fn parse_prefix_pos_limited<T: Limited>(
+    s: &[u8],
+    skip_zeroes: bool,
+) -> Result<(T, usize), AtoiSimdError<'_>>
+    ensures { prefix_by T.number result ≡ unsigned_call front T.means false skip_zeroes s.now }
+{
+    let (val, len) = match T::greatest() {
+        Limit::Narrow(limit) => parse_fb_pos(s, limit, skip_zeroes)?,
+        Limit::Wide(limit) => parse_fb_64_pos(s, limit, skip_zeroes)?,
+    };
+    Ok((T::of(val), len))
 }
 
 // Digits with no sign before them, whose value is negated.
