@@ -11,4 +11,4 @@ pub mod writer;
 
 pub use reader::{CheckedSheet, find_record, read_sheet};
 pub use refusal::{SheetRefusal, TooShort};
-pub use writer::{frame_size, write_sheet};
+pub use writer::{frame_size, write_sheet, write_sheet_up_to};

@@ -2,7 +2,7 @@
 //
 // A place goes beside the buffer: a frame is put where the one before it ends, as the definition
 // says.
-ghost use Rattle.std.specs.Prelude.{◌≡◌, ◌+◌, ◌-◌, ◌*◌, ◌^◌, ◌≤◌, min, ◌++◌, map, length};
+ghost use Rattle.std.specs.Prelude.{◌≡◌, ◌+◌, ◌-◌, ◌*◌, ◌^◌, ◌≤◌, min, ◌++◌, map, length, take};
 ghost use Rattle.records.specs.Payload.{payload_size, put};
 ghost use Rattle.model.specs.Sheet.{payloads, frame, Writes};
 ghost use Rattle.sheets.specs.Refusals.{wrote};
@@ -57,4 +57,19 @@ pub fn write_sheet<A: SheetKind, B: SheetKind>(
     write_frame(first, out, 0);
     write_frame(second, out, middle);
     Ok(size)
+}
+
+// The same of the first `m` and `n` rows, as far as there are so many.
+pub fn write_sheet_up_to<A: SheetKind, B: SheetKind>(
+    first: &[A],
+    m: usize,
+    second: &[B],
+    n: usize,
+    out: &mut [u8],
+) -> Result<usize, TooShort>
+    ensures { Writes (frame A.means (map A.numbers (take m first.now)) ++ frame B.means (map B.numbers (take n second.now)))
+        out.old (wrote result) out.new }
+{
+    let first = &first[..m.min(first.len())];
+    write_sheet(first, &second[..n.min(second.len())], out)
 }
