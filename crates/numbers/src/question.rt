@@ -75,7 +75,7 @@ impl TryFrom<&[u8]> for NumberName {
     }
 }
 
-// What is skipped in front of the digits.
+// What is skipped in front of the digits: two answers of a question's word, and no switch.
 #[derive(Clone, Copy, PartialEq, Eq)]
 pub struct Skips {
     pub zeroes: bool,
@@ -203,6 +203,9 @@ fn first_word(line: &[u8]) -> (&[u8], &[u8]) {
 // The bytes that a TEXT stands for.
 fn bytes_of(heap: Global, text: &[u8]) -> Result<Vec<u8>, Unread> {
     match text.strip_prefix(b"hex:") {
+        // refused before the library asks for the memory of as many bytes
+        Some(digits) if !digits.iter().all(u8::is_ascii_hexdigit) => Err(Unread::BadHexadecimal),
+        // the `?` turns the library's fault into this program's
         Some(digits) => Ok(hex::decode(heap, digits)?),
         None if text.is_empty() => Err(Unread::NoText),
         None => Ok(text.to_vec(heap)?),
