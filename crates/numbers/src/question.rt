@@ -203,7 +203,7 @@ fn first_word(line: &[u8]) -> (&[u8], &[u8]) {
 // The bytes that a TEXT stands for.
 fn bytes_of(heap: Global, text: &[u8]) -> Result<Vec<u8>, Unread> {
     match text.strip_prefix(b"hex:") {
-        // refused before the library asks for the memory of as many bytes
+        // refused before the library asks for the memory of the bytes
         Some(digits) if !digits.iter().all(u8::is_ascii_hexdigit) => Err(Unread::BadHexadecimal),
         // the `?` turns the library's fault into this program's
         Some(digits) => Ok(hex::decode(heap, digits)?),

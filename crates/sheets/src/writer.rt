@@ -59,7 +59,8 @@ pub fn write_sheet<A: SheetKind, B: SheetKind>(
     Ok(size)
 }
 
-// The same of the first `m` and `n` rows, as far as there are so many.
+// The same of the first `m` and `n` rows, as far as there are so many. The counts go beside the rows,
+// as they may be more than these are.
 pub fn write_sheet_up_to<A: SheetKind, B: SheetKind>(
     first: &[A],
     m: usize,
