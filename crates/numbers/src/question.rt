@@ -75,7 +75,7 @@ impl TryFrom<&[u8]> for NumberName {
     }
 }
 
-// What is skipped in front of the digits: two answers of a question's word, and no switch.
+// What is skipped in front of the digits: data of a question, handed on to the library.
 #[derive(Clone, Copy, PartialEq, Eq)]
 pub struct Skips {
     pub zeroes: bool,

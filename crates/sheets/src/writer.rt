@@ -59,8 +59,8 @@ pub fn write_sheet<A: SheetKind, B: SheetKind>(
     Ok(size)
 }
 
-// The same of the first `m` and `n` rows, as far as there are so many. The counts go beside the rows,
-// as they may be more than these are.
+// Writes the sheet of the first `m` and `n` rows of two sections, as far as there are so many, as
+// `write_sheet` does. The counts go beside the rows, as they may be more than these are.
 pub fn write_sheet_up_to<A: SheetKind, B: SheetKind>(
     first: &[A],
     m: usize,
